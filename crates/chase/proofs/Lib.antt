@@ -1,0 +1,25 @@
+-- The laws that the proofs rest on; then the pages for a reader: Theorems, CaseTheorem, Errors.
+pub mod PlaceLaws
+pub mod ListLaws
+pub mod MakingLaws
+pub mod ShapeLaws
+pub mod RunLaws
+pub mod PublishedLaws
+pub mod StepLaws
+pub mod BoundLaws
+pub mod LineLaws
+pub mod LoopLaws
+pub mod CertificateLaws
+pub mod CountLaws
+pub mod AgreeLaws
+pub mod FiniteLaws
+pub mod JudgeLaws
+pub mod Decisions
+pub mod Goings
+pub mod SmallChase
+pub mod LoopCheck
+pub mod LoopSearch
+pub mod CaseCheck
+pub mod Theorems
+pub mod CaseTheorem
+pub mod Errors

@@ -1,0 +1,14 @@
+-- What a sheet means: the definitions that the judge's contract cites, in the order in which document 01 speaks.
+pub mod Lists
+pub mod Rules
+pub mod Value
+pub mod Making
+pub mod Run
+pub mod Shape
+pub mod Counting
+pub mod Steps
+pub mod Judge
+pub mod Chase
+pub mod Simplification
+pub mod Certificate
+pub mod Cases

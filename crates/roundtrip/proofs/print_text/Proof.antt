@@ -1,0 +1,87 @@
+use mathlib.Core.Path.{_≡_, refl, sym, subst, ap, _∙_}
+use mathlib.Core.Logic.{⊎-elim}
+use mathlib.Core.List.{List, [], _∷_}
+use Prim.Native.Nat.{ℕ, _+_, _-_, _*_, _<_, _≤_}
+use native.Mathlib.Omega.{arith}
+use borrow.Author.Needs.{needs}
+use lib.ListN.{length, getD, set, length-set}
+use lib.Seq.{length-take-le}
+use Rattle.sheet.proofs.Counts.{write-counts}
+use Rattle.roundtrip.proofs.print_text.Statement.{statement}
+use Rattle.roundtrip.proofs.print_text.Tie as tie
+use Rattle.roundtrip.proofs.print_text.Reads as reads
+use Rattle.roundtrip.proofs.print_text.Lts as lts
+use Rattle.io.proofs.write_all.Reads as write-all-reads
+use Rattle.roundtrip.proofs.print_refusal.Reads as print-refusal-reads
+use Rattle.roundtrip.proofs.room_for_text.Reads as room-for-text-reads
+use Rattle.sheet.proofs.write.Reads as write-reads
+
+-- what was written fits the room
+wrote : (c : tie.After-size) → c .size .given .0 .0 ≤ 32768
+wrote c =
+    let w = c .before .before .before in
+    let h = write-counts _ _ _ _ (rw (c .size .given .1) at (w .write .ensures)) in
+    omega (arith, h, w .before .before .room-for-text .ensures)
+
+-- src/main.rt:43:20
+room-for-text-requires : tie.Need-room-for-text-requires
+room-for-text-requires c κs = search needs
+
+-- src/main.rt:44:31
+slice-aggregate-write : tie.Need-slice-aggregate-write
+slice-aggregate-write c = search needs
+
+-- src/main.rt:44:11
+write-requires : tie.Need-write-requires
+write-requires c κs = search needs
+
+-- src/main.rt:45:28
+enum-known-size : tie.Need-enum-known-size
+enum-known-size c = search needs
+
+-- src/main.rt:46:42
+array-share-prefix-text : tie.Need-array-share-prefix-text
+array-share-prefix-text c = let h = wrote (c .before) in search needs
+
+-- src/main.rt:46:42
+slice-aggregate-write-all : tie.Need-slice-aggregate-write-all
+slice-aggregate-write-all c =
+    let w = c .before .before .before .before .before in
+    let h = wrote (c .before .before) in
+    sym (length-take-le _ _ (omega (arith, h, w .write .kept .1 .0, w .before .before .room-for-text .ensures)))
+
+-- src/main.rt:46:13
+write-all-requires : tie.Need-write-all-requires
+write-all-requires c κs = search needs
+
+-- src/main.rt:48:30
+enum-known-refusal : tie.Need-enum-known-refusal
+enum-known-refusal c = search needs
+
+-- src/main.rt:48:42
+print-refusal-requires : tie.Need-print-refusal-requires
+print-refusal-requires c κs = search needs
+
+-- src/main.rt:42:1
+returns : tie.Need-returns
+returns c = search needs
+
+-- src/main.rt:42:1
+returns-2 : tie.Need-returns-2
+returns-2 c = search needs
+
+pub print-text-spec : {M : Type 1} → statement M
+print-text-spec =
+    tie.close
+    (tie.spec
+    room-for-text-requires
+    slice-aggregate-write
+    write-requires
+    enum-known-size
+    array-share-prefix-text
+    slice-aggregate-write-all
+    write-all-requires
+    enum-known-refusal
+    print-refusal-requires
+    returns
+    returns-2)

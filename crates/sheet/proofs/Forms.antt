@@ -1,0 +1,182 @@
+-- The laws of forms and of reading a line: which column counts a form has, and what the columns that were read say of the line. Assumes nothing.
+use mathlib.Core.Path.{_≡_, refl, sym, ap, subst, _∙_}
+use mathlib.Core.Bool.{Bool, true, false, cond, and-false}
+use mathlib.Core.List.{List, [], _∷_, _++_}
+use mathlib.Core.Option.{Option, none, some}
+use Prim.Native.Nat.{ℕ, zero, suc, _+_, _-_, _*_, _≤_, _<_}
+use native.Mathlib.Numerals.{add-one}
+use native.Mathlib.Omega.{arith}
+use lib.Dec.{eqb, leb}
+use lib.ListN.{length, getD, take, drop, set, length-append}
+use lib.Seq.{drop-drop}
+use borrow.Author.Tests.{eqb-true, leb-true, eq-eqb, ne-eqb, le-leb, lt-leb}
+use Rattle.sheet.specs.Column.{numberIn}
+use Rattle.sheet.specs.Line.{K, B, H, R, withFields, formOf, known, joined, numbersIn, lineWith, columnCount, lineIn, padded, lent}
+use Rattle.sheet.specs.Inner.{ParsedAs}
+use Rattle.sheet.specs.declared.Form.{Form}
+use Rattle.sheet.specs.declared.Form.the-variants.{Kind, Body, Head, Row, Unknown}
+
+-- Two to seven columns, and fewer, and more.
+pub withFields-inside : (c : ℕ) (form : ℕ → Form) → 2 ≤ c → c < 8 → form (c - 1) ≡ withFields c form
+withFields-inside c form low high = simp (le-leb 2 c low, le-leb c 7 (omega arith))
+
+pub withFields-below : (c : ℕ) (form : ℕ → Form) → c < 2 → Unknown ≡ withFields c form
+withFields-below c form h = simp (lt-leb 2 c h)
+
+pub withFields-above : (c : ℕ) (form : ℕ → Form) → 8 ≤ c → Unknown ≡ withFields c form
+withFields-above c form h = simp (le-leb 2 c (omega arith), lt-leb c 7 h)
+
+known-where : (t : Bool) (form : Form) → known (cond t form Unknown) ≡ true → (t ≡ true) × (known form ≡ true)
+known-where true form h = (refl, h)
+known-where false form h = (h, cc)
+
+known-either : (t : Bool) (yes-form no-form : Form) {P : Type 0} → (known yes-form ≡ true → P) → (known no-form ≡ true → P) → known (cond t yes-form no-form) ≡ true → P
+known-either true yes-form no-form yes-case no-case h = yes-case h
+known-either false yes-form no-form yes-case no-case h = no-case h
+
+known-withFields : (c : ℕ) (form : ℕ → Form) → known (withFields c form) ≡ true → (2 ≤ c) × (c ≤ 7)
+known-withFields c form k =
+    let low = known-where (leb 2 c) (cond (leb c 7) (form (c - 1)) Unknown) k in
+    let high = known-where (leb c 7) (form (c - 1)) (low .1) in
+    (leb-true 2 c (low .0), leb-true c 7 (high .0))
+
+-- A form of a line has two to seven columns.
+pub known-columns : (letter c : ℕ) → known (formOf letter c) ≡ true → (2 ≤ c) × (c ≤ 7)
+unfolding formOf
+known-columns letter c h =
+    known-either (eqb letter K) _ _
+    (λ k. let two = eqb-true c 2 (known-where (eqb c 2) Kind k .0) in (omega arith, omega arith))
+    (known-either (eqb letter B) _ _ (known-withFields c Body)
+    (known-either (eqb letter H) _ _ (known-withFields c Head)
+    (λ k. known-withFields c Row (known-where (eqb letter R) (withFields c Row) k .1))))
+    h
+
+joined-none : (x : Option ℕ) → joined x none ≡ none
+joined-none none = refl
+joined-none (some n) = refl
+
+record Joined (x : Option ℕ) (y : Option (List ℕ)) (ns : List ℕ) : Type 0 where
+  first : ℕ
+  others : List ℕ
+  first-is : x ≡ some first
+  others-are : y ≡ some others
+  all : ns ≡ first ∷ others
+
+joined-some : (x : Option ℕ) (y : Option (List ℕ)) (ns : List ℕ) → joined x y ≡ some ns → Joined x y ns
+joined-some none y ns e = absurd (let z : _≡_ {A = ℕ} 0 1 = cc in omega arith)
+joined-some (some n) none ns e = absurd (let z : _≡_ {A = ℕ} 0 1 = cc in omega arith)
+joined-some (some n) (some ms) ns e = record { first = n; others = ms; first-is = refl; others-are = refl; all = cc }
+
+next-column : (c : ℕ) (bytes : List ℕ) → drop (9 * c) (drop 9 bytes) ≡ drop (9 * suc c) bytes
+next-column c bytes =
+    let sum : 9 + 9 * c ≡ 9 * suc c = omega arith in
+    drop-drop (9 * c) 9 bytes ∙ ap (λ (k : ℕ). drop k bytes) sum
+
+-- One column more.
+pub numbersIn-more : (c : ℕ) (bytes ns : List ℕ) (n : ℕ) → numbersIn c bytes ≡ some ns → numberIn (take 9 (drop (9 * c) bytes)) ≡ some n
+    → numbersIn (suc c) bytes ≡ some (ns ++ (n ∷ []))
+numbersIn-more zero bytes ns n e h = rw h (cc)
+numbersIn-more (suc c) bytes ns n e h =
+    let j = joined-some (numberIn (take 9 bytes)) (numbersIn c (drop 9 bytes)) ns e in
+    let more = numbersIn-more c (drop 9 bytes) (j .others) n (j .others-are) (rw next-column h) in
+    rw (j .first-is, more) (ap (λ (l : List ℕ). some (l ++ (n ∷ []))) (sym (j .all)))
+
+-- A column that is no number's.
+pub numbersIn-none : (c k : ℕ) (bytes : List ℕ) → k < c → numberIn (take 9 (drop (9 * k) bytes)) ≡ none → numbersIn c bytes ≡ none
+numbersIn-none zero k bytes h e = absurd (omega arith)
+numbersIn-none (suc c) zero bytes h e = rw e
+numbersIn-none (suc c) (suc k) bytes h e =
+    rw (numbersIn-none c k (drop 9 bytes) (omega arith) (rw next-column e)) (joined-none (numberIn (take 9 bytes)))
+
+pub padded-more : (w : ℕ) (ns : List ℕ) (n : ℕ) → length ns < w → set (padded w ns) (length ns) n ≡ padded w (ns ++ (n ∷ []))
+padded-more zero ns n h = absurd (omega arith)
+padded-more (suc w) [] n h = refl
+padded-more (suc w) (m ∷ ns) n h = ap (λ (l : List ℕ). m ∷ l) (padded-more w ns n (omega arith))
+
+-- What is known of a line before its columns are read.
+pub record Whole (line : List ℕ) (columns letter : ℕ) (form : Form) : Type 0 where
+  pub count : columns ≡ columnCount (length line)
+  pub size : length line ≡ 9 * columns + 2
+  pub end : getD line (length line - 1) 0 ≡ 10
+  pub letter-is : letter ≡ getD line 0 0
+  pub form-is : form ≡ formOf letter columns
+  pub known-is : known form ≡ true
+
+pub whole-columns : (line : List ℕ) (columns letter : ℕ) (form : Form) → Whole line columns letter form → (2 ≤ columns) × (columns ≤ 7)
+whole-columns line columns letter form w = known-columns letter columns (ap known (sym (w .form-is)) ∙ w .known-is)
+
+-- What the first c columns say, as lent numbers.
+pub record Filled (line : List ℕ) (letter : ℕ) (numbers : List ℕ) (c : ℕ) : Type 0 where
+  pub read : List ℕ
+  pub read-is : numbersIn c (drop 1 line) ≡ some read
+  pub count : length read ≡ c
+  pub numbers-are : numbers ≡ letter ∷ padded 7 read
+
+pub none-filled : (line : List ℕ) (letter : ℕ) → Filled line letter (letter ∷ padded 7 []) 0
+none-filled line letter = record { read = []; read-is = refl; count = refl; numbers-are = refl }
+
+column-at : (line : List ℕ) (c : ℕ) → drop (9 * c) (drop 1 line) ≡ drop (9 * c + 1) line
+column-at line c =
+    let sum : 1 + 9 * c ≡ 9 * c + 1 = omega arith in
+    drop-drop (9 * c) 1 line ∙ ap (λ (k : ℕ). drop k line) sum
+
+pub one-more-filled : (line : List ℕ) (letter : ℕ) (numbers : List ℕ) (c n : ℕ) → Filled line letter numbers c → c < 7
+    → numberIn (take 9 (drop (9 * c + 1) line)) ≡ some n → Filled line letter (set numbers (c + 1) n) (c + 1)
+one-more-filled line letter numbers c n f h e =
+    let size = f .count in
+    record {
+      read = f .read ++ (n ∷ []);
+      read-is = rw add-one (numbersIn-more c (drop 1 line) (f .read) n (f .read-is) (rw column-at e));
+      count = length-append (f .read) (n ∷ []) ∙ omega arith;
+      numbers-are =
+          rw (f .numbers-are, add-one)
+          (ap (λ (l : List ℕ). letter ∷ l) (rw size at (padded-more 7 (f .read) n (omega arith))));
+    }
+
+-- Where a line is none.
+pub size-wrong : (line : List ℕ) → (length line ≡ 9 * columnCount (length line) + 2 → ⊥) → lineIn line ≡ none
+unfolding lineIn
+size-wrong line h = simp (ne-eqb _ _ h)
+
+pub end-wrong : (line : List ℕ) → (getD line (length line - 1) 0 ≡ 10 → ⊥) → lineIn line ≡ none
+unfolding lineIn
+end-wrong line h = simp (ne-eqb _ _ h, and-false)
+
+pub form-wrong : (line : List ℕ) → formOf (getD line 0 0) (columnCount (length line)) ≡ Unknown → lineIn line ≡ none
+unfolding lineIn
+form-wrong line h = simp (h, and-false)
+
+whole-line : (line : List ℕ) (columns letter : ℕ) (form : Form) → Whole line columns letter form
+    → lineIn line ≡ lineWith letter (numbersIn columns (drop 1 line))
+unfolding lineIn
+whole-line line columns letter form w =
+    let form-known : known (formOf (getD line 0 0) (columnCount (length line))) ≡ true = cc (w .known-is, w .form-is, w .letter-is, w .count) in
+    let size : length line ≡ 9 * columnCount (length line) + 2 = cc (w .size, w .count) in
+    rw (eq-eqb (length line) (9 * columnCount (length line) + 2) size, eq-eqb (getD line (length line - 1) 0) 10 (w .end), form-known, ← w .count, ← w .letter-is)
+
+pub column-wrong : (line : List ℕ) (columns letter c : ℕ) (form : Form) → Whole line columns letter form → c < columns
+    → numberIn (take 9 (drop (9 * c + 1) line)) ≡ none → lineIn line ≡ none
+column-wrong line columns letter c form w h e =
+    whole-line line columns letter form w
+    ∙ rw (numbersIn-none columns c (drop 1 line) h (rw column-at e))
+
+pub parsed-unknown : (line : List ℕ) (form : Form) (numbers : List ℕ) → lineIn line ≡ none → form ≡ Unknown → ParsedAs (lineIn line) form numbers
+parsed-unknown line form numbers e h = rw e h
+
+parsed-read : (line : List ℕ) (columns letter : ℕ) (form : Form) (numbers read : List ℕ) → 1 ≤ columns → length read ≡ columns → form ≡ formOf letter columns
+    → lineIn line ≡ lineWith letter (some read) → numbers ≡ letter ∷ padded 7 read → ParsedAs (lineIn line) form numbers
+unfolding lent
+parsed-read line columns letter form numbers [] low count form-is line-is numbers-are = absurd (omega arith)
+parsed-read line columns letter form numbers (n ∷ ns) low count form-is line-is numbers-are =
+    rw line-is (form-is ∙ ap (formOf letter) (sym count), numbers-are)
+
+pub parsed-whole : (line : List ℕ) (columns letter c : ℕ) (form : Form) (numbers : List ℕ) → Whole line columns letter form → columns ≤ c → c ≤ columns
+    → Filled line letter numbers c → ParsedAs (lineIn line) form numbers
+parsed-whole line columns letter c form numbers w high low f =
+    let all : c ≡ columns = omega arith in
+    parsed-read line columns letter form numbers (f .read)
+    (omega (arith, whole-columns line columns letter form w))
+    (f .count ∙ all)
+    (w .form-is)
+    (whole-line line columns letter form w ∙ ap (lineWith letter) (subst (λ (k : ℕ). numbersIn k (drop 1 line) ≡ some (f .read)) all (f .read-is)))
+    (f .numbers-are)

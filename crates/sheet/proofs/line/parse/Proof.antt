@@ -1,0 +1,194 @@
+-- `line::parse` meets its contract. The loop's invariant: what was tested before it, and that the first c columns are filled in. The measure is the columns left. Assumes nothing.
+use mathlib.Core.Path.{_≡_, refl, sym, ap, _∙_}
+use mathlib.Core.List.{[], _∷_}
+use Prim.Native.Nat.{_-_, _≤_}
+use native.Mathlib.Omega.{arith}
+use borrow.Author.Needs.{needs}
+use mathlib.Core.Bool.{true}
+use types.Run.{OneOf, miss}
+use denote.Enum.Declared.{tagOf}
+use Rattle.sheet.specs.Line.{known}
+use Rattle.sheet.specs.Inner.{numberSays}
+use Rattle.sheet.specs.declared.Form.{Form}
+use Rattle.sheet.specs.declared.Form.the-variants.{Kind, Body, Head, Row, Unknown}
+use Rattle.sheet.proofs.Form.{the-type}
+use Rattle.sheet.proofs.Forms.{Whole, Filled, whole-columns, none-filled, one-more-filled, size-wrong, end-wrong, form-wrong, column-wrong, parsed-unknown, parsed-whole}
+use Rattle.sheet.proofs.line.parse.Statement.{statement}
+use Rattle.sheet.proofs.line.parse.Tie as tie
+
+known-of-tag : (form : Form) → OneOf (0 ∷ 1 ∷ 2 ∷ 3 ∷ []) (tagOf the-type form) → known form ≡ true
+known-of-tag Kind k = refl
+known-of-tag (Body n) k = refl
+known-of-tag (Head n) k = refl
+known-of-tag (Row n) k = refl
+known-of-tag Unknown k = absurd (miss (0 ∷ 1 ∷ 2 ∷ 3 ∷ []) 4 tt k)
+
+abbrev Inv-loop : tie.InvT-loop
+Inv-loop line size columns letter form numbers₀ c₀ numbers c = Whole line columns letter form × (c ≤ columns) × Filled line letter numbers c
+
+abbrev μ-loop : tie.MeasureT-loop
+μ-loop line size columns letter form numbers₀ c₀ numbers c = columns - c
+
+unknown-requires : tie.Need-unknown-requires Inv-loop μ-loop
+unknown-requires c κs = search needs
+
+returns : tie.Need-returns Inv-loop μ-loop
+returns c = let line = c .before .before .before .args .line .now in parsed-unknown line _ _ (size-wrong line (λ e. omega arith)) (c .unknown .ensures)
+
+mul-if2 : tie.Need-mul-if2 Inv-loop μ-loop
+mul-if2 c = search needs
+
+add-if2 : tie.Need-add-if2 Inv-loop μ-loop
+add-if2 c = search needs
+
+unknown-requires-2 : tie.Need-unknown-requires-2 Inv-loop μ-loop
+unknown-requires-2 c κs = search needs
+
+returns-2 : tie.Need-returns-2 Inv-loop μ-loop
+returns-2 c = let line = c .before .before .before .before .args .line .now in parsed-unknown line _ _ (size-wrong line (c .before .if2 .taken)) (c .unknown2 .ensures)
+
+sub-if3 : tie.Need-sub-if3 Inv-loop μ-loop
+sub-if3 c = search needs
+
+shared-slice-read-if3 : tie.Need-shared-slice-read-if3 Inv-loop μ-loop
+shared-slice-read-if3 c = search needs
+
+unknown-requires-3 : tie.Need-unknown-requires-3 Inv-loop μ-loop
+unknown-requires-3 c κs = search needs
+
+returns-3 : tie.Need-returns-3 Inv-loop μ-loop
+returns-3 c = let line = c .before .before .before .before .before .before .args .line .now in parsed-unknown line _ _ (end-wrong line (c .before .if3 .taken)) (c .unknown3 .ensures)
+
+shared-slice-read-wide : tie.Need-shared-slice-read-wide Inv-loop μ-loop
+shared-slice-read-wide c = search needs
+
+wide-requires : tie.Need-wide-requires Inv-loop μ-loop
+wide-requires c κs = search needs
+
+take-apart-requires : tie.Need-take-apart-requires Inv-loop μ-loop
+take-apart-requires c κs = search needs
+
+enum-told : tie.Need-enum-told Inv-loop μ-loop
+enum-told c = search needs
+
+unknown-requires-4 : tie.Need-unknown-requires-4 Inv-loop μ-loop
+unknown-requires-4 c κs = search needs
+
+returns-4 : tie.Need-returns-4 Inv-loop μ-loop
+returns-4 c =
+    let line = c .before .before .before .before .before .before .before .before .before .before .before .args .line .now in
+    let apart = c .before .before .before in
+    parsed-unknown line _ _ (form-wrong line (cc (apart .take-apart .ensures, apart .before .wide .ensures, c .before .enum-told .given .1))) (c .unknown4 .ensures)
+
+array-write-numbers : tie.Need-array-write-numbers Inv-loop μ-loop
+array-write-numbers c = search needs
+
+loop-holds : tie.Need-loop-holds Inv-loop μ-loop
+loop-holds c =
+    let apart = c .before in (
+      record {
+        count = refl;
+        size = c .before .before .before .before .before .before .if2 .left;
+        end = c .before .before .before .before .if3 .left;
+        letter-is = apart .before .wide .ensures;
+        form-is = apart .take-apart .ensures;
+        known-is = known-of-tag (apart .take-apart .result) (c .match .keys2);
+      },
+      search needs,
+      none-filled _ _,
+    )
+
+mul-number-at : tie.Need-mul-number-at Inv-loop μ-loop
+mul-number-at c = search needs
+
+add-number-at : tie.Need-add-number-at Inv-loop μ-loop
+add-number-at c = search needs
+
+number-at-requires : tie.Need-number-at-requires Inv-loop μ-loop
+number-at-requires c κs = search needs
+
+enum-known-n : tie.Need-enum-known-n Inv-loop μ-loop
+enum-known-n c = search needs
+
+add-numbers : tie.Need-add-numbers Inv-loop μ-loop
+add-numbers c = search needs
+
+mul-numbers : tie.Need-mul-numbers Inv-loop μ-loop
+mul-numbers c = search needs
+
+array-write-numbers-2 : tie.Need-array-write-numbers-2 Inv-loop μ-loop
+array-write-numbers-2 c = let turn = c .before .before .before .before in omega (arith, whole-columns _ _ _ _ (turn .before .loop .inv .0))
+
+enum-told-2 : tie.Need-enum-told-2 Inv-loop μ-loop
+enum-told-2 c = search needs
+
+unknown-requires-5 : tie.Need-unknown-requires-5 Inv-loop μ-loop
+unknown-requires-5 c κs = search needs
+
+returns-5 : tie.Need-returns-5 Inv-loop μ-loop
+returns-5 c =
+    let read = c .before .before .before in
+    let turn = read .before in
+    let loop = turn .before .loop in
+    parsed-unknown _ _ _
+    (column-wrong _ _ _ _ _ (loop .inv .0) (turn .loop-test .taken) (sym (read .number-at .ensures) ∙ ap numberSays (c .before .enum-told2 .given .1)))
+    (c .unknown5 .ensures)
+
+add-c : tie.Need-add-c Inv-loop μ-loop
+add-c c = search needs
+
+loop-less : tie.Need-loop-less Inv-loop μ-loop
+loop-less c = search needs
+
+loop-again : tie.Need-loop-again Inv-loop μ-loop
+loop-again c =
+    let read = c .before .before .before in
+    let turn = read .before in
+    let inv = turn .before .loop .inv in (
+      inv .0,
+      search needs,
+      one-more-filled _ _ _ _ _ (inv .2) (omega (arith, whole-columns _ _ _ _ (inv .0)))
+          (sym (read .number-at .ensures) ∙ ap numberSays (c .before .n .given .1)),
+    )
+
+returns-6 : tie.Need-returns-6 Inv-loop μ-loop
+returns-6 c = let inv = c .before .loop .inv in parsed-whole _ _ _ _ _ _ (inv .0) (c .loop-test .left) (inv .1) (inv .2)
+
+pub parse-spec : {M : Type 1} → statement M
+parse-spec =
+    tie.close
+    (tie.spec
+    Inv-loop
+    μ-loop
+    unknown-requires
+    returns
+    mul-if2
+    add-if2
+    unknown-requires-2
+    returns-2
+    sub-if3
+    shared-slice-read-if3
+    unknown-requires-3
+    returns-3
+    shared-slice-read-wide
+    wide-requires
+    take-apart-requires
+    enum-told
+    unknown-requires-4
+    returns-4
+    array-write-numbers
+    loop-holds
+    mul-number-at
+    add-number-at
+    number-at-requires
+    enum-known-n
+    add-numbers
+    mul-numbers
+    array-write-numbers-2
+    enum-told-2
+    unknown-requires-5
+    returns-5
+    add-c
+    loop-less
+    loop-again
+    returns-6)

@@ -1,0 +1,257 @@
+// The tests of a line against the lines before it: place, kind and width, marks, counts.
+ghost use mathlib.Core.Path.{_≡_};
+ghost use mathlib.Core.Bool.{_&&_};
+ghost use Prim.Native.Nat.{_≤_};
+ghost use lib.Dec.{eqb, ltb};
+ghost use lib.ListN.{length, getD, take, drop};
+ghost use Rattle.sheet.specs.Sheet.{inPlace};
+ghost use Rattle.sheet.specs.Inner.{NothingSeen, Admits, FieldsFit, marksTop, placedOf, declares};
+use crate::Form;
+use crate::columns::wide;
+
+// What is kept of the lines before. `mark` is the largest of the open rule's marks, `heads` the number of its H lines.
+pub(crate) struct Seen {
+    pub letter: u32,
+    pub kind: u32,
+    pub mark: u32,
+    pub rules: u32,
+    pub heads: u32,
+    pub rows: u32,
+}
+
+// The line is admitted, or refused with a number.
+pub(crate) enum Admitted {
+    Yes(Seen),
+    No(u32),
+}
+
+// Before the first line.
+pub(crate) fn nothing_seen() -> Seen
+    ensures { λ r. ⌜ NothingSeen r ⌝ }
+{
+    Seen {
+        letter: 0,
+        kind: 0,
+        mark: 0,
+        rules: 0,
+        heads: 0,
+        rows: 0,
+    }
+}
+
+// The width that is declared for a kind; 0 where none is.
+pub(crate) fn width_of(widths: &[u8; 65], kind: u32) -> u32
+    requires { ⌜ length (now widths) ≡ 65 ⌝ }
+    ensures { λ r. ⌜ r ≡ getD (now (widths .entry)) kind 0 ⌝ }
+{
+    if kind < 65 {
+        return wide(widths[kind as usize]);
+    }
+    0
+}
+
+// The largest of a line's first `fields` marks, where they are right after the mark `m`; 0 where they are not.
+pub(crate) fn marks(numbers: [u32; 8], fields: usize, m: u32) -> u32
+    requires { ⌜ fields ≤ 6 ⌝ }
+    ensures { λ r. ⌜ r ≡ marksTop m (take fields (drop 2 numbers)) ⌝ }
+{
+    let mut top = m;
+    let mut i: usize = 0;
+    while i < fields {
+        let n = numbers[i + 2];
+        if n < 1 {
+            return 0;
+        }
+        if 12 < n {
+            return 0;
+        }
+        if top < n {
+            if top + 1 < n {
+                return 0;
+            }
+            top = n;
+        }
+        i += 1;
+    }
+    top
+}
+
+// Whether a line with this letter may follow a line with the letter `last`.
+fn in_place(last: u32, letter: u32) -> bool
+    ensures { λ r. ⌜ r ≡ inPlace last letter ⌝ }
+{
+    match letter {
+        75 => match last {
+            0 | 75 => true,
+            _ => false,
+        },
+        66 => match last {
+            0 | 75 | 72 => true,
+            _ => false,
+        },
+        72 => match last {
+            66 | 72 => true,
+            _ => false,
+        },
+        _ => match last {
+            66 => false,
+            _ => true,
+        },
+    }
+}
+
+// Whether a K line's kind and width are right after the kind `last`.
+fn declared(last: u32, kind: u32, width: u32) -> bool
+    ensures { λ r. ⌜ r ≡ declares last kind width ⌝ }
+{
+    if kind < 1 {
+        return false;
+    }
+    if 64 < kind {
+        return false;
+    }
+    if kind <= last {
+        return false;
+    }
+    if width < 1 {
+        return false;
+    }
+    width <= 6
+}
+
+// Whether the width is declared and is the number of fields.
+fn same_width(fields: usize, width: u32) -> bool
+    ensures { λ r. ⌜ r ≡ (ltb 0 width && eqb fields width) ⌝ }
+{
+    if width == 0 {
+        return false;
+    }
+    fields == width as usize
+}
+
+// The refusal of a B, H or R line for its place or its kind; 0 where it gets neither.
+fn placed(last: u32, widths: &[u8; 65], letter: u32, kind: u32, fields: usize) -> u32
+    requires { ⌜ length (now widths) ≡ 65 ⌝ }
+    ensures { λ r. ⌜ r ≡ placedOf last letter fields (getD (now (widths .entry)) kind 0) ⌝ }
+{
+    let here = in_place(last, letter);
+    let right = same_width(fields, width_of(widths, kind));
+    if !here {
+        return 3;
+    }
+    if !right {
+        return 4;
+    }
+    0
+}
+
+fn admit_kind(seen: Seen, widths: &mut [u8; 65], numbers: [u32; 8]) -> Admitted
+    requires { ⌜ length (now widths) ≡ 65 ⌝ }
+    ensures { λ r. ⌜ Admits seen (now (widths .entry)) Form.Kind numbers r (now (widths .exit)) ⌝ }
+{
+    let kind = numbers[1];
+    let width = numbers[2];
+    if !in_place(seen.letter, 75) {
+        return Admitted::No(3);
+    }
+    if !declared(seen.kind, kind, width) {
+        return Admitted::No(4);
+    }
+    widths[kind as usize] = width as u8;
+    Admitted::Yes(Seen {
+        letter: 75,
+        kind,
+        mark: 0,
+        rules: seen.rules,
+        heads: 0,
+        rows: seen.rows,
+    })
+}
+
+fn admit_body(seen: Seen, widths: &[u8; 65], numbers: [u32; 8], fields: usize) -> Admitted
+    requires { ⌜ (length (now widths) ≡ 65) × (fields ≤ 6) ⌝ }
+    ensures { λ r. ⌜ Admits seen (now (widths .entry)) (Form.Body fields) numbers r (now (widths .entry)) ⌝ }
+{
+    let kind = numbers[1];
+    let wrong = placed(seen.letter, widths, 66, kind, fields);
+    if wrong != 0 {
+        return Admitted::No(wrong);
+    }
+    let mark = marks(numbers, fields, 0);
+    if mark == 0 {
+        return Admitted::No(5);
+    }
+    if seen.rules >= 256 {
+        return Admitted::No(6);
+    }
+    Admitted::Yes(Seen {
+        letter: 66,
+        kind,
+        mark,
+        rules: seen.rules + 1,
+        heads: 0,
+        rows: seen.rows,
+    })
+}
+
+fn admit_head(seen: Seen, widths: &[u8; 65], numbers: [u32; 8], fields: usize) -> Admitted
+    requires { ⌜ (length (now widths) ≡ 65) × (fields ≤ 6) ⌝ }
+    ensures { λ r. ⌜ Admits seen (now (widths .entry)) (Form.Head fields) numbers r (now (widths .entry)) ⌝ }
+{
+    let kind = numbers[1];
+    let wrong = placed(seen.letter, widths, 72, kind, fields);
+    if wrong != 0 {
+        return Admitted::No(wrong);
+    }
+    let mark = marks(numbers, fields, seen.mark);
+    if mark == 0 {
+        return Admitted::No(5);
+    }
+    if seen.heads >= 4 {
+        return Admitted::No(6);
+    }
+    Admitted::Yes(Seen {
+        letter: 72,
+        kind,
+        mark,
+        rules: seen.rules,
+        heads: seen.heads + 1,
+        rows: seen.rows,
+    })
+}
+
+fn admit_row(seen: Seen, widths: &[u8; 65], numbers: [u32; 8], fields: usize) -> Admitted
+    requires { ⌜ length (now widths) ≡ 65 ⌝ }
+    ensures { λ r. ⌜ Admits seen (now (widths .entry)) (Form.Row fields) numbers r (now (widths .entry)) ⌝ }
+{
+    let kind = numbers[1];
+    let wrong = placed(seen.letter, widths, 82, kind, fields);
+    if wrong != 0 {
+        return Admitted::No(wrong);
+    }
+    if seen.rows >= 1024 {
+        return Admitted::No(6);
+    }
+    Admitted::Yes(Seen {
+        letter: 82,
+        kind,
+        mark: 0,
+        rules: seen.rules,
+        heads: 0,
+        rows: seen.rows + 1,
+    })
+}
+
+// Tests a line of this form against the lines before it.
+pub(crate) fn admit(seen: Seen, widths: &mut [u8; 65], form: Form, numbers: [u32; 8]) -> Admitted
+    requires { ⌜ (length (now widths) ≡ 65) × FieldsFit form ⌝ }
+    ensures { λ r. ⌜ Admits seen (now (widths .entry)) form numbers r (now (widths .exit)) ⌝ }
+{
+    match form {
+        Form::Kind => admit_kind(seen, widths, numbers),
+        Form::Body(fields) => admit_body(seen, widths, numbers, fields),
+        Form::Head(fields) => admit_head(seen, widths, numbers, fields),
+        Form::Row(fields) => admit_row(seen, widths, numbers, fields),
+        Form::Unknown => Admitted::No(2),
+    }
+}
