@@ -10,7 +10,8 @@ use borrow.Author.Tests.{le-leb}
 use lib.Dec.{leb}
 use lib.ListN.{length, getD, take, drop, length-drop, List·getD-eq-default}
 use lib.Seq.{take-at, drop-append-add, length-take-le, getD-take, getD-drop}
-use Rattle.sheet.specs.Pattern.{patterns, padded, digitsOf}
+use Rattle.sheet.specs.Line.{padded}
+use Rattle.sheet.specs.Pattern.{patterns, digitsOf}
 use Rattle.sheet.proofs.PatternRank.{count, ways, first}
 
 -- Rows of six places, one after the other.

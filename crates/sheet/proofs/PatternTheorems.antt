@@ -9,7 +9,8 @@ use borrow.Author.Tests.{eq-eqb, ne-eqb, lt-ltb, le-ltb}
 use lib.Dec.{T}
 use lib.ListN.{length, getD}
 use Rattle.sheet.specs.Outcome.{good, refused}
-use Rattle.sheet.specs.Pattern.{pattern, patterns, patternsTo, goingOn, led, lists-discrete, numberOf, patternOf, padded, digitsOf}
+use Rattle.sheet.specs.Line.{padded}
+use Rattle.sheet.specs.Pattern.{pattern, patterns, patternsTo, goingOn, led, lists-discrete, numberOf, patternOf, digitsOf}
 use Rattle.sheet.specs.PatternTable.{appears, earlier, Pattern}
 use Rattle.sheet.proofs.PatternLaws.{same-places, pattern-places}
 use Rattle.sheet.proofs.PatternRank.{count, right-at, placed, has-pattern, pattern-appears, appears-own}

@@ -9,6 +9,7 @@ use lib.Dec.{eqb, ltb}
 use lib.ListN.{length, getD}
 use Rattle.sheet.specs.Outcome.{Outcome, good, refused}
 use Rattle.sheet.specs.Answer.{refusalSays}
+use Rattle.sheet.specs.Line.{padded}
 use Rattle.sheet.specs.declared.PatternAnswer.{PatternAnswer}
 use Rattle.sheet.specs.declared.PatternAnswer.the-variants.{Number, Refused}
 
@@ -83,12 +84,6 @@ patternOf xs = cond (eqb (length xs) 0 || ltb 6 (length xs)) (refused 10 0) (goo
 abbrev pub patternSays : PatternAnswer → Outcome ℕ
 patternSays (Number n) = good n
 patternSays (Refused refusal) = refusalSays refusal
-
--- The first n places of a list, with 0 past its end.
-abbrev pub padded : ℕ → List ℕ → List ℕ
-padded zero ds = []
-padded (suc n) [] = 0 ∷ padded n []
-padded (suc n) (d ∷ ds) = d ∷ padded n ds
 
 -- What `digits` answers: the digits of pattern `number` in six places; all 0 where there is no such pattern.
 unfoldable pub digitsOf : ℕ → List ℕ

@@ -1,0 +1,78 @@
+-- Numbers at nodes after one was put, and their sum. Assumes nothing.
+use mathlib.Core.Path.{_≡_, refl, sym, ap, _∙_}
+use mathlib.Core.List.{List, []}
+use mathlib.Core.Logic.{by-cases}
+use Prim.Native.Nat.{ℕ, zero, suc, _+_, _*_, _/_, _%_, _≤_, _<_}
+use native.Mathlib.Omega.{arith}
+use native.Mathlib.Decide.{ℕ-discrete}
+use lib.ListN.{length, getD, set, length-set}
+use lib.Seq.{getD-set-same, getD-set-other}
+use Rattle.judging.specs.Nodes.{at, put, Grid}
+use Rattle.judging.specs.Passes.{sumTo}
+
+-- One value changed.
+pub record Change (f g : ℕ → ℕ) (v a : ℕ) : Type 0 where
+  pub same : g v ≡ a
+  pub other : (x : ℕ) → (x ≡ v → ⊥) → g x ≡ f x
+
+module _ {g : List (List ℕ)} (grid : Grid g) (v x : ℕ) (low : v < 3584) where
+  row-length : length (getD g (v / 7) []) ≡ 7
+  row-length = grid .rows (v / 7) (omega arith)
+
+  at-put-same : at (put g v x) v ≡ x
+  unfolding at put
+  at-put-same =
+      ap (λ (row : List ℕ). getD row (v % 7) 0)
+      (getD-set-same g (v / 7) (set (getD g (v / 7) []) (v % 7) x) [] (let s = grid .size in omega arith))
+      ∙ getD-set-same (getD g (v / 7) []) (v % 7) x 0 (let s = row-length in omega arith)
+
+  at-put-other : (y : ℕ) → (y ≡ v → ⊥) → at (put g v x) y ≡ at g y
+  unfolding at put
+  at-put-other y d =
+      by-cases (ℕ-discrete (y / 7) (v / 7))
+      (λ (e : y / 7 ≡ v / 7).
+      rw e
+      (ap (λ (row : List ℕ). getD row (y % 7) 0)
+      (getD-set-same g (v / 7) (set (getD g (v / 7) []) (v % 7) x) [] (let s = grid .size in omega arith))
+      ∙ getD-set-other (getD g (v / 7) []) (v % 7) (y % 7) x 0 (λ q. d (omega arith))))
+      (λ (e : y / 7 ≡ v / 7 → ⊥).
+      ap (λ (row : List ℕ). getD row (y % 7) 0)
+      (getD-set-other g (v / 7) (y / 7) (set (getD g (v / 7) []) (v % 7) x) [] e))
+
+  pub put-change : Change (at g) (at (put g v x)) v x
+  put-change = record { same = at-put-same; other = at-put-other }
+
+  pub put-grid : Grid (put g v x)
+  unfolding put
+  put-grid =
+      record {
+        size = length-set g (v / 7) (set (getD g (v / 7) []) (v % 7) x) ∙ grid .size;
+        rows = λ s l.
+            by-cases (ℕ-discrete s (v / 7))
+            (λ (e : s ≡ v / 7).
+            rw e
+            (ap length (getD-set-same g (v / 7) (set (getD g (v / 7) []) (v % 7) x) [] (let s = grid .size in omega arith))
+            ∙ length-set (getD g (v / 7) []) (v % 7) x
+            ∙ row-length))
+            (λ (e : s ≡ v / 7 → ⊥).
+            ap length (getD-set-other g (v / 7) s (set (getD g (v / 7) []) (v % 7) x) [] e) ∙ grid .rows s l);
+      }
+
+sum-same : (n : ℕ) (f g : ℕ → ℕ) → ((x : ℕ) → x < n → g x ≡ f x) → sumTo n g ≡ sumTo n f
+unfolding sumTo
+sum-same zero f g e = refl
+sum-same (suc n) f g e = omega (arith, sum-same n f g (λ x l. e x (omega arith)), e n (omega arith))
+
+pub sum-change : {f g : ℕ → ℕ} {v a : ℕ} → Change f g v a → (n : ℕ) → v < n → sumTo n g + f v ≡ sumTo n f + a
+unfolding sumTo
+sum-change c zero l = absurd (omega arith)
+sum-change {f} {g} {v} {a} c (suc n) l =
+    by-cases (ℕ-discrete v n)
+    (λ (e : v ≡ n).
+    omega (arith, sum-same n f g (λ x h. c .other x (λ q. omega arith)), c .same, ap f e, ap g e))
+    (λ (e : v ≡ n → ⊥). omega (arith, sum-change c n (omega arith), c .other n (λ q. e (sym q))))
+
+pub sum-low : (n m : ℕ) (f : ℕ → ℕ) → ((v : ℕ) → f v ≤ m) → sumTo n f ≤ n * m
+unfolding sumTo
+sum-low zero m f h = omega arith
+sum-low (suc n) m f h = omega (arith, sum-low n m f h, h n)

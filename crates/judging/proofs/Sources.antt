@@ -1,0 +1,100 @@
+-- The first place of a mark holds its value, and the places that fresh numbers come from are those of the carried marks. Assumes nothing.
+use mathlib.Core.Path.{_≡_, refl, sym}
+use mathlib.Core.Bool.{Bool, true, false, cond, _&&_}
+use mathlib.Core.Logic.{_⊎_, inl, inr}
+use mathlib.Core.List.{List, [], _∷_}
+use mathlib.Core.Option.{some, Option·none-ne-some}
+use Prim.Native.Nat.{ℕ, zero, suc, _≤_, _<_}
+use native.Mathlib.Decide.{ℕ-discrete}
+use native.Mathlib.Omega.{arith}
+use lib.Dec.{eqb}
+use lib.ListN.{length, getD}
+use borrow.Author.Tests.{eqb-true, eq-eqb, ne-eqb}
+use Rattle.sheet.specs.Pattern.{pick}
+use Rattle.chase.specs.Lists.{In}
+use Rattle.chase.specs.Rules.{Rule, marksOf, nth}
+use Rattle.chase.specs.Making.{valueOf, has, carriedMarks}
+use Rattle.chase.proofs.MakingLaws.{has-in, in-has, carried-in, in-carried}
+use Rattle.judging.specs.Table.{later, firstPlace, isNone, flag, sourceAt}
+
+-- The first place of a mark is at most the number of marks, and 0 only where the mark is not there.
+pub first-within : (m : ℕ) (bs : List ℕ) → firstPlace m bs ≤ length bs
+first-within m [] = omega arith
+first-within m (b ∷ bs) = go (eqb m b) (firstPlace m bs) (first-within m bs)
+  where
+    go : (t : Bool) (p : ℕ) → p ≤ length bs → cond t 1 (later p) ≤ suc (length bs)
+    go true p l = omega arith
+    go false zero l = omega arith
+    go false (suc p) l = omega arith
+
+pub first-in : (m : ℕ) (bs : List ℕ) → 0 < firstPlace m bs → In m bs
+first-in m [] l = absurd (omega arith)
+first-in m (b ∷ bs) l = go (eqb m b) refl (firstPlace m bs) (λ h. first-in m bs h) l
+  where
+    go : (t : Bool) → eqb m b ≡ t → (p : ℕ) → (0 < p → In m bs) → 0 < cond t 1 (later p) → In m (b ∷ bs)
+    go true q p ih l = inl (eqb-true m b q)
+    go false q zero ih l = absurd (omega arith)
+    go false q (suc p) ih l = inr (ih (omega arith))
+
+-- That place has the mark.
+pub first-at : (m : ℕ) (bs : List ℕ) → In m bs → (i : ℕ) × (firstPlace m bs ≡ suc i) × (getD bs i 0 ≡ m)
+first-at m [] i = absurd i
+first-at m (b ∷ bs) i = go (ℕ-discrete m b) i (λ j. first-at m bs j)
+  where
+    go : Dec (m ≡ b) → (m ≡ b) ⊎ In m bs → (In m bs → (i : ℕ) × (firstPlace m bs ≡ suc i) × (getD bs i 0 ≡ m))
+        → (i : ℕ) × (cond (eqb m b) 1 (later (firstPlace m bs)) ≡ suc i) × (getD (b ∷ bs) i 0 ≡ m)
+    go (yes e) i ih = (0, rw (eq-eqb m b e), sym e)
+    go (no h) (inl e) ih = absurd (h e)
+    go (no h) (inr j) ih =
+        let s = ih j in
+        (suc (s .0), rw (ne-eqb m b h, s .1), s .2)
+
+-- The field there is the mark's value.
+pub first-value : {A : Type 0} (m : ℕ) (bs : List ℕ) (xs : List A) (x : A) → valueOf bs xs m ≡ some x → nth xs (firstPlace m bs) ≡ some x
+first-value m [] xs x e = absurd (Option·none-ne-some x e)
+first-value m (b ∷ bs) [] x e = absurd (Option·none-ne-some x e)
+first-value {A = A} m (b ∷ bs) (y ∷ xs) x e = go (ℕ-discrete m b) e (λ q. first-value m bs xs x q)
+  where
+    after : (p : ℕ) → nth xs p ≡ some x → nth (y ∷ xs) (later p) ≡ some x
+    after zero q = absurd (Option·none-ne-some x q)
+    after (suc p) q = q
+
+    go : (d : Dec (m ≡ b)) → pick d (some y) (valueOf bs xs m) ≡ some x → (valueOf bs xs m ≡ some x → nth xs (firstPlace m bs) ≡ some x)
+        → nth (y ∷ xs) (cond (eqb m b) 1 (later (firstPlace m bs))) ≡ some x
+    go (yes p) e ih = rw (eq-eqb m b p) e
+    go (no h) e ih = rw (ne-eqb m b h) (after (firstPlace m bs) (ih e))
+
+-- A place that fresh numbers come from is 0, where nothing is carried, or the first one of a carried mark.
+pub data Source (r : Rule) (place : ℕ) : Type 0 where
+  nothing : place ≡ 0 → carriedMarks r ≡ [] → Source r place
+  first : (m : ℕ) → In m (carriedMarks r) → place ≡ firstPlace m (r .marks) → Source r place
+
+flag-one : (b : Bool) → flag b ≡ 1 → b ≡ true
+flag-one true e = refl
+flag-one false e = absurd (omega arith)
+
+both-true : (a b : Bool) → (a && b) ≡ true → (a ≡ true) × (b ≡ true)
+both-true true b e = (refl, e)
+both-true false b e = absurd (let z : _≡_ {A = ℕ} 0 1 = cc in omega arith)
+
+none-empty : (ms : List ℕ) → isNone ms ≡ true → ms ≡ []
+none-empty [] e = refl
+none-empty (m ∷ ms) e = absurd (let z : _≡_ {A = ℕ} 0 1 = cc in omega arith)
+
+pub source-is : (r : Rule) (place : ℕ) → sourceAt r place ≡ 1 → Source r place
+source-is r zero e = nothing refl (none-empty (carriedMarks r) (flag-one (isNone (carriedMarks r)) e))
+source-is r (suc i) e =
+    let m : ℕ = getD (r .marks) i 0 in
+    let s = both-true (eqb (firstPlace m (r .marks)) (suc i)) (has m (marksOf (r .heads)))
+    (flag-one (eqb (firstPlace m (r .marks)) (suc i) && has m (marksOf (r .heads))) e) in
+    let q : firstPlace m (r .marks) ≡ suc i = eqb-true (firstPlace m (r .marks)) (suc i) (s .0) in
+    first m (in-carried r m (first-in m (r .marks) (omega arith)) (has-in m (marksOf (r .heads)) (s .1))) (sym q)
+
+pub no-source : (r : Rule) → carriedMarks r ≡ [] → sourceAt r 0 ≡ 1
+no-source r e = rw e
+
+pub carried-source : (r : Rule) (m : ℕ) → In m (carriedMarks r) → sourceAt r (firstPlace m (r .marks)) ≡ 1
+carried-source r m i =
+    let s = carried-in r m i in
+    let f = first-at m (r .marks) (s .0) in
+    rw (f .1, f .2, eq-eqb (firstPlace m (r .marks)) (suc (f .0)) (f .1), in-has m (marksOf (r .heads)) (s .1))

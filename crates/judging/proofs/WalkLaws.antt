@@ -1,0 +1,47 @@
+-- A walk back from node to node: one law for each event. Assumes nothing.
+use mathlib.Core.Path.{_≡_, refl, subst, ap, _∙_}
+use mathlib.Core.List.{List}
+use Prim.Native.Nat.{ℕ, _+_, _≤_, _<_}
+use native.Mathlib.Omega.{arith}
+use native.Mathlib.Numerals.{add-one}
+use borrow.Author.Count.{below-more}
+use Rattle.judging.specs.Nodes.{at, back}
+use Rattle.judging.specs.Passes.{Long, Inside, Walked}
+
+-- The walk is k links back from x, at y.
+pub record Going (n : ℕ) (g from : List (List ℕ)) (x y k : ℕ) : Type 0 where
+  pub few : k ≤ n
+  pub node : y < n
+  pub here : y ≡ back (at from) k x
+  pub long : Long (at g) (at from) k x
+
+pub going : {n : ℕ} {g from : List (List ℕ)} {x : ℕ} → Inside n g from x → Going n g from x x 0
+unfolding Long
+going i = record { few = omega arith; node = i .node; here = refl; long = λ j l. let y : ⊥ = omega arith in absurd y }
+
+module _ {n : ℕ} {g from : List (List ℕ)} {x y k : ℕ} (i : Inside n g from x) (o : Going n g from x y k) where
+  pub further : (z : ℕ) → k < n → (at g y ≡ 0 → ⊥) → z ≡ at from y → Going n g from x z (k + 1)
+  unfolding Long
+  further z l d e =
+      let h : z ≡ back (at from) (k + 1) x = rw add-one (e ∙ ap (at from) (o .here)) in
+      let m : Long (at g) (at from) (k + 1) x = below-more _ k (o .long) (rw (← o .here) (omega arith)) in
+      record { few = omega arith; node = rw h (i .below (k + 1) m); here = h; long = m }
+
+  pub met : k < n → at g y ≡ 0 → Walked n g from x 0
+  met l z =
+      record {
+        short = λ _. (k, l, o .long, rw (← o .here) z);
+        long = λ p. let y : ⊥ = omega arith in absurd y;
+      }
+
+  pub unmet : n ≤ k → Walked n g from x (y + 1)
+  unmet l =
+      let f = o .few in
+      let q : k ≡ n = omega arith in
+      record {
+        short = λ p. let y : ⊥ = omega arith in absurd y;
+        long = λ _. (
+          ap (λ (v : ℕ). v + 1) (o .here ∙ ap (λ (k : ℕ). back (at from) k x) q),
+          subst (λ (k : ℕ). Long (at g) (at from) k x) q (o .long),
+        );
+      }

@@ -1,0 +1,73 @@
+-- `judging::shape::made_number` meets its contract: the first place of the mark tells a fresh number from a carried one. Assumes nothing.
+use mathlib.Core.Path.{_∙_}
+use native.Mathlib.Omega.{arith}
+use borrow.Author.Needs.{needs}
+use Rattle.judging.specs.Table.{rowBytes}
+use Rattle.judging.proofs.RuleLaws.{RowFits, row-fits, place-few, fresh-number, carried-number}
+use Rattle.judging.proofs.shape.made_number.Statement.{statement}
+use Rattle.judging.proofs.shape.made_number.Tie as tie
+
+row : (c : tie.Start) → RowFits (rowBytes (c .args .table .now) (c .args .r))
+row c = row-fits (c .args .table .now) (c .args .rules) (c .args .r) (c .pre .0) (c .pre .1)
+
+add-rule-byte : tie.Need-add-rule-byte
+add-rule-byte c = search needs
+
+rule-byte-requires : tie.Need-rule-byte-requires
+rule-byte-requires c κs = search needs
+
+rule-byte-requires-2 : tie.Need-rule-byte-requires-2
+rule-byte-requires-2 c κs = search needs
+
+add-result : tie.Need-add-result
+add-result c = search needs
+
+add-result-2 : tie.Need-add-result-2
+add-result-2 c = search needs
+
+cast-result : tie.Need-cast-result
+cast-result c = search needs
+
+returns : tie.Need-returns
+returns c =
+    let b = c .before .before .before in
+    fresh-number (row b) (b .args .t5) (b .args .mark) (b .pre .2) (c .before .before .rule-byte .result) (c .rule-byte2 .result)
+    (c .before .before .rule-byte .ensures .0) (c .before .if1 .taken) (c .rule-byte2 .ensures .0)
+
+sub-wide : tie.Need-sub-wide
+sub-wide c = search needs
+
+array-read-wide : tie.Need-array-read-wide
+array-read-wide c =
+    let b = c .before .before in
+    omega (arith, place-few (row b) (b .args .mark) (c .before .rule-byte .result) (b .pre .2) (c .before .rule-byte .ensures .0))
+
+wide-requires : tie.Need-wide-requires
+wide-requires c κs = search needs
+
+cast-result-2 : tie.Need-cast-result-2
+cast-result-2 c = search needs
+
+returns-2 : tie.Need-returns-2
+returns-2 c =
+    let b = c .before .before .before in
+    c .wide .ensures .0
+    ∙ carried-number (row b) (b .args .t5) (b .args .mark) (b .pre .2) (c .before .before .rule-byte .result)
+    (c .before .before .rule-byte .ensures .0) (c .before .if1 .left)
+
+pub made-number-spec : {M : Type 1} → statement M
+made-number-spec =
+    tie.close
+    (tie.spec
+    add-rule-byte
+    rule-byte-requires
+    rule-byte-requires-2
+    add-result
+    add-result-2
+    cast-result
+    returns
+    sub-wide
+    array-read-wide
+    wide-requires
+    cast-result-2
+    returns-2)

@@ -1,0 +1,173 @@
+-- `spread::follow_head` meets its contract. Assumes nothing.
+use mathlib.Core.Logic.{⊎-elim}
+use Prim.Native.Nat.{_-_, _≤_}
+use native.Mathlib.Omega.{arith}
+use borrow.Author.Needs.{needs}
+use Rattle.judging.specs.Table.{rowBytes}
+use Rattle.judging.specs.Passes.{Done, Upto, FieldE}
+use Rattle.judging.proofs.PassLaws.{none, next, whole, arrived}
+use Rattle.judging.proofs.LinkLaws.{place-read, fresh-field, carried-field}
+use Rattle.judging.proofs.spread.follow_head.Statement.{statement}
+use Rattle.judging.proofs.spread.follow_head.Tie as tie
+
+abbrev Inv-loop : tie.InvT-loop
+Inv-loop table n s r h t generations₀ from₀ links₀ waiting₀ before width link last₀ j₀ generations from links waiting last j =
+    (j ≤ width) × Done n (Upto j (FieldE (rowBytes table r) r h s t)) generations₀ from₀ links₀ waiting₀ last₀ generations from links waiting last
+
+abbrev μ-loop : tie.MeasureT-loop
+μ-loop table n s r h t generations₀ from₀ links₀ waiting₀ before width link last₀ j₀ generations from links waiting last j = width - j
+
+mul-rule-byte : tie.Need-mul-rule-byte Inv-loop μ-loop
+mul-rule-byte c = omega arith
+
+add-rule-byte : tie.Need-add-rule-byte Inv-loop μ-loop
+add-rule-byte c = omega arith
+
+rule-byte-requires : tie.Need-rule-byte-requires Inv-loop μ-loop
+rule-byte-requires c κs = let s = c in (s .pre .0, s .pre .1, omega arith)
+
+mul-link : tie.Need-mul-link Inv-loop μ-loop
+mul-link c = omega arith
+
+mul-link-2 : tie.Need-mul-link-2 Inv-loop μ-loop
+mul-link-2 c = omega arith
+
+add-link : tie.Need-add-link Inv-loop μ-loop
+add-link c = omega arith
+
+cast-link : tie.Need-cast-link Inv-loop μ-loop
+cast-link c = omega arith
+
+loop-holds : tie.Need-loop-holds Inv-loop μ-loop
+loop-holds c = (omega arith, none (c .before .pre .3))
+
+mul-rule-byte-2 : tie.Need-mul-rule-byte-2 Inv-loop μ-loop
+mul-rule-byte-2 c = omega arith
+
+add-rule-byte-2 : tie.Need-add-rule-byte-2 Inv-loop μ-loop
+add-rule-byte-2 c = let w = c .before .before .rule-byte .ensures .0 in omega arith
+
+add-rule-byte-3 : tie.Need-add-rule-byte-3 Inv-loop μ-loop
+add-rule-byte-3 c = let w = c .before .before .rule-byte .ensures .0 in omega arith
+
+rule-byte-requires-2 : tie.Need-rule-byte-requires-2 Inv-loop μ-loop
+rule-byte-requires-2 c κs =
+    let s = c .before .before .before in
+    let w = c .before .before .rule-byte .ensures .0 in
+    (s .pre .0, s .pre .1, omega arith)
+
+add-rule-byte-4 : tie.Need-add-rule-byte-4 Inv-loop μ-loop
+add-rule-byte-4 c =
+    let s = c .before .before .before .before in
+    let w = c .before .before .before .rule-byte .ensures .0 in
+    let m = c .rule-byte2 .ensures .0 in
+    let k = s .pre .2 .marks (c .before .before .loop .j) (omega arith) in
+    omega arith
+
+rule-byte-requires-3 : tie.Need-rule-byte-requires-3 Inv-loop μ-loop
+rule-byte-requires-3 c κs =
+    let s = c .before .before .before .before in
+    let w = c .before .before .before .rule-byte .ensures .0 in
+    let m = c .rule-byte2 .ensures .0 in
+    let k = s .pre .2 .marks (c .before .before .loop .j) (omega arith) in
+    (s .pre .0, s .pre .1, omega arith)
+
+mul-v : tie.Need-mul-v Inv-loop μ-loop
+mul-v c = let w = c .before .before .before .before .rule-byte .ensures .0 in let z = c .before .before .before .before .before .pre .3 .small in omega arith
+
+add-v : tie.Need-add-v Inv-loop μ-loop
+add-v c = let w = c .before .before .before .before .rule-byte .ensures .0 in let z = c .before .before .before .before .before .pre .3 .small in omega arith
+
+add-v-2 : tie.Need-add-v-2 Inv-loop μ-loop
+add-v-2 c = let w = c .before .before .before .before .rule-byte .ensures .0 in let z = c .before .before .before .before .before .pre .3 .small in omega arith
+
+add-follow-fresh : tie.Need-add-follow-fresh Inv-loop μ-loop
+add-follow-fresh c = omega arith
+
+follow-fresh-requires : tie.Need-follow-fresh-requires Inv-loop μ-loop
+follow-fresh-requires c κs =
+    let s = c .before .before .before .before .before .before .before .before .before .before in
+    let w = c .before .before .before .before .before .before .before .before .before .rule-byte .ensures .0 in
+    (s .pre .0, s .pre .1, c .before .before .before .before .before .before .before .before .loop .inv .1 .live, s .pre .4, omega arith)
+
+mul-follow : tie.Need-mul-follow Inv-loop μ-loop
+mul-follow c = let z = c .before .before .before .before .before .before .pre .3 .small in omega arith
+
+add-follow : tie.Need-add-follow Inv-loop μ-loop
+add-follow c =
+    let s = c .before .before .before .before .before .before in
+    let w = c .before .before .before .before .before .rule-byte .ensures .0 in
+    let b = rowBytes (s .args .table .now) (s .args .r) in
+    let e = place-read b (s .args .h) (c .before .before .before .before .loop .j) (c .before .before .rule-byte2 .ensures .0) (c .before .rule-byte3 .ensures .0) in
+    let q = s .pre .2 .places (c .before .before .before .before .loop .j) (omega arith) in
+    let z = s .pre .3 .small in
+    omega arith
+
+follow-requires : tie.Need-follow-requires Inv-loop μ-loop
+follow-requires c κs =
+    let s = c .before .before .before .before .before .before .before .before .before .before in
+    let w = c .before .before .before .before .before .before .before .before .before .rule-byte .ensures .0 in
+    let b = rowBytes (s .args .table .now) (s .args .r) in
+    let e = place-read b (s .args .h) (c .before .before .before .before .before .before .before .before .loop .j) (c .before .before .before .before .before .before .rule-byte2 .ensures .0) (c .before .before .before .before .before .rule-byte3 .ensures .0) in
+    let q = s .pre .2 .places (c .before .before .before .before .before .before .before .before .loop .j) (omega arith) in
+    (c .before .before .before .before .before .before .before .before .loop .inv .1 .live, omega arith, omega arith)
+
+add-j : tie.Need-add-j Inv-loop μ-loop
+add-j c = search needs
+
+loop-less : tie.Need-loop-less Inv-loop μ-loop
+loop-less c = search needs
+
+loop-again : tie.Need-loop-again Inv-loop μ-loop
+loop-again c =
+    let s = c .before .before .before .before .before .before in
+    let a = s .args in
+    let b = rowBytes (a .table .now) (a .r) in
+    let e = place-read b (a .h) (c .before .before .before .before .loop .j) (c .before .before .rule-byte2 .ensures .0) (c .before .rule-byte3 .ensures .0) in (
+      omega arith,
+      next (c .before .before .before .before .loop .inv .1)
+          (⊎-elim
+          (λ w. arrived (w .6) (w .7) (w .8) (w .9) (w .10) (fresh-field b (a .r) (a .h) (a .s) (a .t) (c .before .before .before .before .loop .j) e (w .0 .taken) (w .5 .ensures)))
+          (λ w. arrived (w .6) (w .7) (w .8) (w .9) (w .10) (carried-field b (a .r) (a .h) (a .s) (a .t) (c .before .before .before .before .loop .j) e (w .0 .left) (w .5 .ensures)))
+          (c .if1 .came)),
+    )
+
+returns : tie.Need-returns Inv-loop μ-loop
+returns c =
+    let w = c .before .before .rule-byte .ensures .0 in
+    let t = c .loop-test .left in
+    let i = c .before .loop .inv .0 in
+    whole (c .before .loop .inv .1) (omega arith) (omega arith)
+
+pub follow-head-spec : {M : Type 1} → statement M
+follow-head-spec =
+    tie.close
+    (tie.spec
+    Inv-loop
+    μ-loop
+    mul-rule-byte
+    add-rule-byte
+    rule-byte-requires
+    mul-link
+    mul-link-2
+    add-link
+    cast-link
+    loop-holds
+    mul-rule-byte-2
+    add-rule-byte-2
+    add-rule-byte-3
+    rule-byte-requires-2
+    add-rule-byte-4
+    rule-byte-requires-3
+    mul-v
+    add-v
+    add-v-2
+    add-follow-fresh
+    follow-fresh-requires
+    mul-follow
+    add-follow
+    follow-requires
+    add-j
+    loop-less
+    loop-again
+    returns)

@@ -1,0 +1,74 @@
+-- `spread::spread` meets its contract. Assumes nothing.
+use mathlib.Core.Path.{_≡_, refl}
+use Prim.Native.Nat.{ℕ, _-_, _*_}
+use native.Mathlib.Omega.{arith}
+use lib.ListN.{length-replicate, getD-replicate}
+use Rattle.judging.specs.Nodes.{at}
+use Rattle.judging.specs.Passes.{sumTo}
+use Rattle.judging.proofs.RoundLaws.{Round, height, nothing, settled, inside, again, endless}
+use Rattle.judging.proofs.spread.spread.Statement.{statement}
+use Rattle.judging.proofs.spread.spread.Tie as tie
+
+abbrev Inv-loop : tie.InvT-loop
+Inv-loop table rules shapes index count generations₀ from₀ links₀ n waiting₀ turning₀ generations from links waiting turning =
+    (turning ≡ 0) × Round table rules shapes index count generations from links waiting
+
+abbrev μ-loop : tie.MeasureT-loop
+μ-loop table rules shapes index count generations₀ from₀ links₀ n waiting₀ turning₀ generations from links waiting turning =
+    7 * count * (7 * count) - sumTo (7 * count) (at generations)
+
+mul-n : tie.Need-mul-n Inv-loop μ-loop
+mul-n c =
+    let f = c .pre .1 .few in omega arith
+
+loop-holds : tie.Need-loop-holds Inv-loop μ-loop
+loop-holds c =
+    let s = c in
+    (refl, nothing (s .pre .0) (s .pre .1) (s .pre .2) (s .pre .3) (s .pre .4) (length-replicate {A = ℕ} 512 1) (λ i l. getD-replicate {A = ℕ} 512 i 1 0 l))
+
+sweep-requires : tie.Need-sweep-requires Inv-loop μ-loop
+sweep-requires c κs =
+    (c .before .before .before .before .before .pre .0, c .before .before .before .before .before .pre .1, c .before .before .before .before .loop .inv .1 .live, c .before .before .before .before .loop .inv .1 .rests)
+
+raised-requires : tie.Need-raised-requires Inv-loop μ-loop
+raised-requires c κs =
+    let d = c .before .before .if1 .left in omega arith
+
+back-requires : tie.Need-back-requires Inv-loop μ-loop
+back-requires c κs =
+    inside (c .before .before .before .before .before .before .before .before .before .before .pre .0) (c .before .before .before .before .before .before .before .before .before .before .pre .1) (c .before .before .before .before .before .before .before .before .before .loop .inv .1) (c .before .before .before .before .sweep .ensures) (c .before .before .before .if1 .left) (c .raised .ensures)
+
+loop-less : tie.Need-loop-less Inv-loop μ-loop
+loop-less c =
+    let h = height (again (c .before .before .before .before .before .before .before .before .before .before .before .before .pre .0) (c .before .before .before .before .before .before .before .before .before .before .before .before .pre .1) (c .before .before .before .before .before .before .before .before .before .before .before .loop .inv .1) (c .before .before .before .before .before .before .sweep .ensures) (c .before .before .before .before .before .if1 .left) (c .before .before .raised .ensures) (c .before .back .ensures) (c .if2 .left) .live) in
+    let d = c .before .before .before .before .before .if1 .left in
+    let m = c .before .before .before .before .before .before .sweep .ensures .more (omega arith) in
+    omega arith
+
+loop-again : tie.Need-loop-again Inv-loop μ-loop
+loop-again c =
+    (c .if2 .left, again (c .before .before .before .before .before .before .before .before .before .before .before .before .pre .0) (c .before .before .before .before .before .before .before .before .before .before .before .before .pre .1) (c .before .before .before .before .before .before .before .before .before .before .before .loop .inv .1) (c .before .before .before .before .before .before .sweep .ensures) (c .before .before .before .before .before .if1 .left) (c .before .before .raised .ensures) (c .before .back .ensures) (c .if2 .left))
+
+returns : tie.Need-returns Inv-loop μ-loop
+returns c =
+    settled (c .before .before .before .before .before .before .before .pre .0) (c .before .before .before .before .before .before .before .pre .1) (c .before .before .before .before .before .before .loop .inv .1) (c .before .sweep .ensures) (c .before .before .before .before .before .before .loop .inv .0) (c .if1 .taken)
+
+returns-2 : tie.Need-returns-2 Inv-loop μ-loop
+returns-2 c =
+    endless (c .before .before .before .before .before .before .before .before .before .before .before .before .pre .0) (c .before .before .before .before .before .before .before .before .before .before .before .before .pre .1) (c .before .before .before .before .before .before .before .before .before .before .before .loop .inv .1) (c .before .before .before .before .before .before .sweep .ensures) (c .before .before .before .before .before .if1 .left) (c .before .before .raised .ensures) (c .before .back .ensures) (c .if2 .taken)
+
+pub spread-spec : {M : Type 1} → statement M
+spread-spec =
+    tie.close
+    (tie.spec
+    Inv-loop
+    μ-loop
+    mul-n
+    loop-holds
+    sweep-requires
+    raised-requires
+    back-requires
+    loop-less
+    loop-again
+    returns
+    returns-2)

@@ -1,0 +1,315 @@
+// Generations: the largest that each field of each found shape can have, or a loop in which they rise for ever.
+//
+// A node is a field of a found shape, 7 × place of the shape + field; field 0 stands for no field. A link leads from a node to a field of
+// the shape that an H line makes: a carried one from the first place of the mark, a fresh one from the first place of each carried mark,
+// or from field 0 where the rule carries nothing. Its code is 8 × rule + 2 × H line + fresh, both counted from 0.
+ghost use mathlib.Core.Path.{_≡_};
+ghost use Prim.Native.Nat.{ℕ, _+_, _*_, _≤_, _<_};
+ghost use lib.ListN.{length};
+ghost use Rattle.judging.specs.Table.{tableRules, rowBytes, TableFits};
+ghost use Rattle.judging.specs.Codes.{shapeAt, ShapeFits};
+ghost use Rattle.judging.specs.Nodes.{at, put as putAt, Grid, Zeros};
+ghost use Rattle.judging.specs.Links.{Closed, Spreads};
+ghost use Rattle.judging.specs.Passes.{Live, Done, Swept, Rests, Just, Upto, FreshE, LineBytes, HeadE, ShapeE, EachE, Onward, Inside, Walked, Last};
+use crate::shape::fires;
+use crate::shape::made;
+use crate::shape::rule_byte;
+
+pub(crate) fn number(g: &[[u16; 7]; 512], v: usize) -> u16
+    requires { ⌜ Grid (now g) × (v < 3584) ⌝ }
+    ensures { λ r. ⌜ r ≡ at (now (g .entry)) v ⌝ }
+{
+    let s = v / 7;
+    let i = v % 7;
+    g[s][i]
+}
+
+fn put(g: &mut [[u16; 7]; 512], v: usize, x: u16)
+    requires { ⌜ Grid (now g) × (v < 3584) ⌝ }
+    ensures { λ _. ⌜ now (g .exit) ≡ putAt (now (g .entry)) v x ⌝ }
+{
+    let s = v / 7;
+    let i = v % 7;
+    g[s][i] = x;
+}
+
+// Follows one link, from node u to node v, where there are n nodes. `last` is 0 where nothing was raised, v + 1 where v was raised last,
+// v + 4097 where v was raised above n: then nothing more is done. `waiting` holds 1 for each shape whose links are to be followed.
+fn follow(
+    n: usize,
+    u: usize,
+    v: usize,
+    link: u16,
+    generations: &mut [[u16; 7]; 512],
+    from: &mut [[u16; 7]; 512],
+    links: &mut [[u16; 7]; 512],
+    waiting: &mut [u8; 512],
+    last: usize,
+) -> usize
+    requires { ⌜ Live n (now generations) (now from) (now links) (now waiting) last × (u < n) × (v < n) ⌝ }
+    ensures { λ r. ⌜ Done n (Just u v link) (now (generations .entry)) (now (from .entry)) (now (links .entry)) (now (waiting .entry)) last (now (generations .exit)) (now (from .exit)) (now (links .exit)) (now (waiting .exit)) r ⌝ }
+{
+    if 4096 < last {
+        return last;
+    }
+    let x = number(generations, u) + link % 2;
+    if number(generations, v) >= x {
+        return last;
+    }
+    put(generations, v, x);
+    put(from, v, u as u16);
+    put(links, v, link);
+    waiting[v / 7] = 1;
+    if n < x as usize {
+        return v + 4097;
+    }
+    v + 1
+}
+
+// Follows the fresh links of rule `r` from shape `s` to node v.
+fn follow_fresh(
+    table: &[u8; 16384],
+    n: usize,
+    s: usize,
+    r: usize,
+    v: usize,
+    link: u16,
+    generations: &mut [[u16; 7]; 512],
+    from: &mut [[u16; 7]; 512],
+    links: &mut [[u16; 7]; 512],
+    waiting: &mut [u8; 512],
+    before: usize,
+) -> usize
+    requires { ⌜ (length (now table) ≡ 16384) × (r < 256) × Live n (now generations) (now from) (now links) (now waiting) before × (7 * s + 7 ≤ n) × (v < n) ⌝ }
+    ensures { λ q. ⌜ Done n (Upto 7 (FreshE (rowBytes (now (table .entry)) r) s v link)) (now (generations .entry)) (now (from .entry)) (now (links .entry)) (now (waiting .entry)) before (now (generations .exit)) (now (from .exit)) (now (links .exit)) (now (waiting .exit)) q ⌝ }
+{
+    let mut last = before;
+    let mut p: usize = 0;
+    while p < 7 {
+        if rule_byte(table, r, 21 + p) == 1 {
+            last = follow(
+                n,
+                7 * s + p,
+                v,
+                link,
+                generations,
+                from,
+                links,
+                waiting,
+                last,
+            );
+        }
+        p += 1;
+    }
+    last
+}
+
+// Follows the links of H line `h` of rule `r` from shape `s` to the shape `t` that it makes.
+fn follow_head(
+    table: &[u8; 16384],
+    n: usize,
+    s: usize,
+    r: usize,
+    h: usize,
+    t: usize,
+    generations: &mut [[u16; 7]; 512],
+    from: &mut [[u16; 7]; 512],
+    links: &mut [[u16; 7]; 512],
+    waiting: &mut [u8; 512],
+    before: usize,
+) -> usize
+    requires { ⌜ (length (now table) ≡ 16384) × (r < 256) × LineBytes (rowBytes (now table) r) h × Live n (now generations) (now from) (now links) (now waiting) before × (7 * s + 7 ≤ n) × (7 * t + 7 ≤ n) ⌝ }
+    ensures { λ q. ⌜ Done n (HeadE (rowBytes (now (table .entry)) r) r h s t) (now (generations .entry)) (now (from .entry)) (now (links .entry)) (now (waiting .entry)) before (now (generations .exit)) (now (from .exit)) (now (links .exit)) (now (waiting .exit)) q ⌝ }
+{
+    let width = rule_byte(table, r, 33 + 8 * h);
+    let link = (8 * r + 2 * h) as u16;
+    let mut last = before;
+    let mut j: usize = 0;
+    while j < width {
+        let mark = rule_byte(table, r, 34 + 8 * h + j);
+        let place = rule_byte(table, r, 8 + mark);
+        let v = 7 * t + j + 1;
+        if place == 0 {
+            last = follow_fresh(
+                table,
+                n,
+                s,
+                r,
+                v,
+                link + 1,
+                generations,
+                from,
+                links,
+                waiting,
+                last,
+            );
+        } else {
+            last = follow(
+                n,
+                7 * s + place,
+                v,
+                link,
+                generations,
+                from,
+                links,
+                waiting,
+                last,
+            );
+        }
+        j += 1;
+    }
+    last
+}
+
+// Follows all links from shape `s`.
+fn follow_shape(
+    table: &[u8; 16384],
+    rules: usize,
+    shape: usize,
+    index: &[u16; 17792],
+    n: usize,
+    s: usize,
+    generations: &mut [[u16; 7]; 512],
+    from: &mut [[u16; 7]; 512],
+    links: &mut [[u16; 7]; 512],
+    waiting: &mut [u8; 512],
+    before: usize,
+) -> usize
+    requires { ⌜ TableFits (now table) rules × (length (now index) ≡ 17792) × (shape < 17792) × ShapeFits (shapeAt shape) × Onward (now table) rules (now index) n shape × Live n (now generations) (now from) (now links) (now waiting) before × (7 * s + 7 ≤ n) ⌝ }
+    ensures { λ r. ⌜ Done n (ShapeE (now (table .entry)) rules (now (index .entry)) shape s) (now (generations .entry)) (now (from .entry)) (now (links .entry)) (now (waiting .entry)) before (now (generations .exit)) (now (from .exit)) (now (links .exit)) (now (waiting .exit)) r ⌝ }
+{
+    let kind = shape / 278 + 1;
+    let digits = sheet::digits(shape % 278 + 1);
+    let mut last = before;
+    let mut r: usize = 0;
+    while r < rules {
+        if fires(table, rules, r, kind, digits) {
+            let heads = rule_byte(table, r, 28);
+            let mut h: usize = 0;
+            while h < heads {
+                let t = index[made(table, rules, r, h, digits)] as usize - 1;
+                last = follow_head(
+                    table,
+                    n,
+                    s,
+                    r,
+                    h,
+                    t,
+                    generations,
+                    from,
+                    links,
+                    waiting,
+                    last,
+                );
+                h += 1;
+            }
+        }
+        r += 1;
+    }
+    last
+}
+
+// Follows the links of each waiting shape once. Answers what was raised last.
+fn sweep(
+    table: &[u8; 16384],
+    rules: usize,
+    shapes: &[u32; 512],
+    index: &[u16; 17792],
+    count: usize,
+    generations: &mut [[u16; 7]; 512],
+    from: &mut [[u16; 7]; 512],
+    links: &mut [[u16; 7]; 512],
+    waiting: &mut [u8; 512],
+) -> usize
+    requires { ⌜ TableFits (now table) rules × Closed (tableRules (now table) rules) (now shapes) (now index) count × Live (7 * count) (now generations) (now from) (now links) (now waiting) 0 × ((u v link : ℕ) → EachE (now table) rules (now shapes) (now index) count u v link → Rests (now generations) (now waiting) u v link) ⌝ }
+    ensures { λ r. ⌜ Swept (7 * count) (EachE (now (table .entry)) rules (now (shapes .entry)) (now (index .entry)) count) count (now (generations .entry)) (now (from .entry)) (now (links .entry)) (now (generations .exit)) (now (from .exit)) (now (links .exit)) (now (waiting .exit)) r ⌝ }
+{
+    let n = 7 * count;
+    let mut last: usize = 0;
+    let mut s: usize = 0;
+    while s < count {
+        if waiting[s] == 1 {
+            waiting[s] = 0;
+            last = follow_shape(
+                table,
+                rules,
+                shapes[s] as usize,
+                index,
+                n,
+                s,
+                generations,
+                from,
+                links,
+                waiting,
+                last,
+            );
+        }
+        s += 1;
+    }
+    last
+}
+
+// The node that a sweep's answer names.
+fn raised(last: usize) -> usize
+    requires { ⌜ 0 < last ⌝ }
+    ensures { λ r. ⌜ Last last r ⌝ }
+{
+    if 4096 < last { last - 4097 } else { last - 1 }
+}
+
+// Goes back n links from node x. Answers 0 where a node of generation 0 is met, and otherwise one more than the node it comes to.
+fn back(n: usize, generations: &[[u16; 7]; 512], from: &[[u16; 7]; 512], x: usize) -> usize
+    requires { ⌜ Inside n (now generations) (now from) x ⌝ }
+    ensures { λ r. ⌜ Walked n (now (generations .entry)) (now (from .entry)) x r ⌝ }
+{
+    let mut y = x;
+    let mut k: usize = 0;
+    while k < n {
+        if number(generations, y) == 0 {
+            return 0;
+        }
+        y = number(from, y) as usize;
+        k += 1;
+    }
+    y + 1
+}
+
+// Raises the generations, all 0 at first, until all is settled or they rise in a loop; each node keeps the link that raised it last. Answers 0 where all is settled, and otherwise one more than a node of a loop.
+pub(crate) fn spread(
+    table: &[u8; 16384],
+    rules: usize,
+    shapes: &[u32; 512],
+    index: &[u16; 17792],
+    count: usize,
+    generations: &mut [[u16; 7]; 512],
+    from: &mut [[u16; 7]; 512],
+    links: &mut [[u16; 7]; 512],
+) -> usize
+    requires { ⌜ TableFits (now table) rules × Closed (tableRules (now table) rules) (now shapes) (now index) count × Zeros (now generations) × Grid (now from) × Grid (now links) ⌝ }
+    ensures { λ r. ⌜ Spreads (tableRules (now (table .entry)) rules) (now (shapes .entry)) count (now (generations .exit)) (now (from .exit)) (now (links .exit)) r ⌝ }
+{
+    let n = 7 * count;
+    let mut waiting = [1u8; 512];
+    let mut turning: usize = 0;
+    loop {
+        let last = sweep(
+            table,
+            rules,
+            shapes,
+            index,
+            count,
+            generations,
+            from,
+            links,
+            &mut waiting,
+        );
+        if last == 0 {
+            break;
+        }
+        turning = back(n, generations, from, raised(last));
+        if turning != 0 {
+            break;
+        }
+    }
+    turning
+}
