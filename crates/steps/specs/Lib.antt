@@ -1,0 +1,2 @@
+-- What it is to show steps as records.
+pub mod Showing
