@@ -1,11 +1,13 @@
 -- Document 01's sheets to try hold: the definitions give every figure of the table, whatever answer meets the contract. Assumes nothing.
 use mathlib.Core.Path.{refl}
 use mathlib.Core.Logic.{inl, inr}
-use mathlib.Core.List.{List, [], _∷_}
+use mathlib.Core.List.{List, [], _∷_, map}
 use Prim.Native.Nat.{ℕ}
 use Rattle.chase.specs.Lists.{In, both?, All2}
 use Rattle.chase.specs.Steps.{Step}
-use Rattle.chase.specs.Cases.{Case, cases, Holds}
+use Rattle.chase.specs.Cases.{Case, cases, Holds, Entry, sheetEntry, patternEntries, entries, EntryHolds}
+use Rattle.sheet.proofs.PatternTheorems.{zero-zero, no-number}
+use Rattle.chase.proofs.ListLaws.{in-append, map-in}
 use Rattle.chase.proofs.Decisions.{decided}
 use Rattle.chase.proofs.CaseCheck.{Evidence, ends, turns, Passes, passes?, passes-holds}
 
@@ -57,3 +59,16 @@ pub every-case-holds : (c : Case) → In c cases → Holds c
 every-case-holds c i =
     let s = all2-in Passes c cases evidence all-pass i in
     passes-holds c (s .0) (s .1)
+
+every-pattern-holds : (e : Entry) → In e patternEntries → EntryHolds e
+every-pattern-holds e (inl p) = rw p zero-zero
+every-pattern-holds e (inr (inl p)) = rw p no-number
+every-pattern-holds e (inr (inr k)) = absurd k
+
+-- THE THEOREM: the definitions give every entry of the table.
+pub every-entry-holds : (e : Entry) → In e entries → EntryHolds e
+every-entry-holds e i =
+    elim (in-append e (map sheetEntry cases) patternEntries i) [
+      | inl j ↦ let s = map-in sheetEntry cases e j in rw (s .2) (every-case-holds (s .0) (s .1))
+      | inr j ↦ every-pattern-holds e j
+    ]

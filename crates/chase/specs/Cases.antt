@@ -1,13 +1,14 @@
 -- Document 01's sheets to try, each as its text with the figures that document 01 gives, and what it is that a case holds. Assumes nothing.
 use mathlib.Core.Path.{_≡_}
-use mathlib.Core.List.{List, [], _∷_, _++_}
+use mathlib.Core.List.{List, [], _∷_, _++_, map}
 use mathlib.Core.Option.{Option, none, some}
 use Prim.Native.Nat.{ℕ, _*_, _≤_}
 use Prim.Native.Char.{code}
 use Prim.Native.String
 use Prim.Native.String.{String}
 use lib.ListN.{length}
-use Rattle.sheet.specs.Outcome.{good}
+use Rattle.sheet.specs.Outcome.{Outcome, good, refused}
+use Rattle.sheet.specs.Pattern.{patternOf}
 use Rattle.sheet.specs.Line.{Line, lentOf}
 use Rattle.sheet.specs.Read.{sheetIn}
 use Rattle.chase.specs.Judge.{Verdict, Judgement, judged, stepLimit, shapeLimit, JudgeMeets}
@@ -130,3 +131,20 @@ pub record Holds (c : Case) : Type 0 where
   pub read : sheetIn (c .text) ≡ good lines
   pub answer : (before now : List ℕ) (a : Judgement) → 5 * stepLimit ≤ length before → JudgeMeets shapeLimit (lentOf lines) before a now
       → (v : Verdict) × (a ≡ judged v) × Has (c .figures) v
+
+-- An entry of the table: a sheet, or some numbers with what Pattern answers for them.
+pub data Entry : Type 0 where
+  sheetEntry : Case → Entry
+  patternEntry : List ℕ → Outcome ℕ → Entry
+
+-- The patterns of (0, 0) and of no number.
+abbrev pub patternEntries : List Entry
+patternEntries = patternEntry (0 ∷ 0 ∷ []) (good 2) ∷ patternEntry [] (refused 10 0) ∷ []
+
+-- The starred entries of document 01.
+abbrev pub entries : List Entry
+entries = map sheetEntry cases ++ patternEntries
+
+abbrev pub EntryHolds : Entry → Type 0
+EntryHolds (sheetEntry c) = Holds c
+EntryHolds (patternEntry numbers answer) = patternOf numbers ≡ answer
