@@ -6,7 +6,7 @@ use Prim.Native.Nat.{ℕ, suc}
 use native.Mathlib.Decide.{ℕ-discrete}
 use native.Mathlib.Omega.{arith}
 use lib.ListN.{length, getElem?}
-use Rattle.sheet.specs.Pattern.{pick}
+use Rattle.patterns.specs.Pattern.{pick}
 use Rattle.chase.specs.Lists.{All2}
 use Rattle.chase.proofs.PlaceLaws.{zero-one}
 use Rattle.chase.specs.Rules.{nth}

@@ -7,13 +7,13 @@ use Prim.Native.Nat.{ℕ, _*_, _≤_}
 use native.Mathlib.Decide.{ℕ-discrete, decLe}
 use native.Mathlib.Omega.{arith}
 use lib.ListN.{length, take, drop, length-take, length-drop}
-use Rattle.sheet.specs.Outcome.{Outcome, good, refused}
-use Rattle.sheet.specs.Column.{column, numberIn}
+use Rattle.patterns.specs.Outcome.{Outcome, good, refused}
+use Rattle.columns.specs.Column.{column, numberIn}
 use Rattle.sheet.specs.Line.{Line, lentOf, lent, lineIn, formOf, wellFormed}
 use Rattle.sheet.specs.Sheet.{inPlace, kindRight, marksRight, roomFor, refusal}
 use Rattle.sheet.specs.Read.{sheetIn, takenText}
 use Rattle.sheet.specs.Write.{sheetHeld, takenLent, lineHeld, lineHolds}
-use Rattle.sheet.specs.Pattern.{lists-discrete}
+use Rattle.patterns.specs.Pattern.{lists-discrete}
 use Rattle.chase.specs.Lists.{both?, In}
 use Rattle.chase.proofs.PlaceLaws.{zero-one}
 use Rattle.chase.specs.Rules.{Rule, rulesOf, nth}

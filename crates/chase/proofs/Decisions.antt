@@ -6,7 +6,7 @@ use mathlib.Core.List.{List, [], _∷_}
 use Prim.Native.Nat.{ℕ}
 use native.Mathlib.Decide.{ℕ-discrete}
 use Rattle.sheet.specs.Line.{Line}
-use Rattle.sheet.specs.Pattern.{lists-discrete}
+use Rattle.patterns.specs.Pattern.{lists-discrete}
 use Rattle.chase.specs.Lists.{both?, All, In, in?}
 use Rattle.chase.proofs.PlaceLaws.{zero-one}
 use Rattle.chase.specs.Shape.{Shape}

@@ -14,7 +14,7 @@ use Rattle.chase.specs.Run.{Reachable, row, madeFrom}
 use Rattle.chase.specs.Judge.{Bounded}
 use Rattle.chase.proofs.ListLaws.{in-left, in-right, in-map, all-of}
 use Rattle.chase.proofs.MakingLaws.{in-marksOf, valueOf-in-fields, carriedValues-in-fields, carriedValues-length, makes-in, makes-length}
-use Rattle.chase.proofs.ShapeLaws.{generation-below}
+use Rattle.chase.proofs.Generations.{generation-below}
 use Rattle.chase.proofs.RunLaws.{left-reachable, reachable-left}
 use Rattle.chase.proofs.StepLaws.{nth-in}
 use Rattle.chase.proofs.CountLaws.{numbersTo, nth-number}

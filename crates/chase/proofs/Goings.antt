@@ -5,7 +5,7 @@ use mathlib.Core.List.{List, [], _∷_, _++_, map}
 use mathlib.Core.Option.{some, Option·none-ne-some}
 use Prim.Native.Nat.{ℕ, zero, suc}
 use native.Mathlib.Decide.{ℕ-discrete}
-use Rattle.sheet.specs.Pattern.{pick}
+use Rattle.patterns.specs.Pattern.{pick}
 use Rattle.chase.specs.Lists.{options-discrete, In, in?}
 use Rattle.chase.specs.Rules.{Head, Rule, nth}
 use Rattle.chase.specs.Value.{Value, Value-discrete}

@@ -6,7 +6,7 @@ use Prim.Native.Nat.{ℕ, _*_, _≤_}
 use native.Mathlib.Omega.{arith}
 use lib.ListN.{length, take, drop}
 use Rattle.sheet.specs.Line.{Line}
-use Rattle.sheet.specs.Outcome.{good, refused}
+use Rattle.patterns.specs.Outcome.{good, refused}
 use Rattle.chase.proofs.PlaceLaws.{zero-one}
 use Rattle.sheet.specs.Write.{sheetHeld}
 use Rattle.chase.specs.Rules.{Rule, rulesOf}

@@ -1,4 +1,5 @@
--- The laws that the proofs rest on; then the pages for a reader: Theorems, CaseTheorem, Errors.
+-- The pages for a reader are Generations, Theorems, CaseTheorem and Errors; the others are the laws that the proofs rest on.
+pub mod Generations
 pub mod PlaceLaws
 pub mod ListLaws
 pub mod MakingLaws

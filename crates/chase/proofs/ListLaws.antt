@@ -2,7 +2,7 @@
 use mathlib.Core.Path.{_≡_, refl, sym, ap, subst}
 use mathlib.Core.Logic.{_⊎_, inl, inr}
 use mathlib.Core.List.{List, [], _∷_, _++_, map}
-use Rattle.sheet.specs.Pattern.{pick, add, addAll}
+use Rattle.patterns.specs.Pattern.{pick, add, addAll}
 use Rattle.chase.specs.Lists.{In, All, All2}
 use Rattle.chase.specs.Counting.{NoTwo}
 

@@ -10,7 +10,7 @@ use native.Mathlib.Omega.{arith}
 use lib.Dec.{eqb}
 use lib.ListN.{length, length-map}
 use borrow.Author.Tests.{eqb-true, eqb-false}
-use Rattle.sheet.specs.Pattern.{pick, addAll}
+use Rattle.patterns.specs.Pattern.{pick, addAll}
 use Rattle.chase.specs.Lists.{In, All2}
 use Rattle.chase.proofs.PlaceLaws.{addAll-has}
 use Rattle.chase.specs.Rules.{Head, Rule, marksOf}

@@ -5,7 +5,7 @@ use mathlib.Core.List.{List, [], _∷_, map}
 use Prim.Native.Nat.{ℕ, zero, suc, _+_, _≤_, _<_}
 use native.Mathlib.Omega.{arith}
 use lib.ListN.{length}
-use Rattle.sheet.specs.Pattern.{pick, index, add, addAll, pattern}
+use Rattle.patterns.specs.Pattern.{pick, index, add, addAll, pattern}
 use Rattle.chase.specs.Lists.{In, All}
 
 pub zero-one : _≡_ {A = ℕ} 0 1 → ⊥

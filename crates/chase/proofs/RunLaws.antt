@@ -4,7 +4,7 @@ use mathlib.Core.Logic.{_⊎_, inl, inr}
 use mathlib.Core.List.{List, [], _∷_, _++_, map}
 use mathlib.Core.Option.{Option, none, some, Option·none-ne-some}
 use Prim.Native.Nat.{ℕ}
-use Rattle.sheet.specs.Pattern.{pick, addAll}
+use Rattle.patterns.specs.Pattern.{pick, addAll}
 use Rattle.chase.specs.Lists.{both?, In, in?}
 use Rattle.chase.proofs.PlaceLaws.{addAll-has, addAll-keeps}
 use Rattle.chase.specs.Rules.{Head, Rule, nth}

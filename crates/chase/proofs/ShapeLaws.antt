@@ -8,27 +8,23 @@ use Prim.Native.Nat.{ℕ, suc, _+_, _≤_}
 use native.Mathlib.Decide.{ℕ-discrete}
 use native.Mathlib.Omega.{arith}
 use lib.ListN.{length, length-map}
-use Rattle.sheet.specs.Pattern.{pick, pattern}
+use Rattle.patterns.specs.Pattern.{pick, pattern}
 use Rattle.chase.specs.Lists.{In, All2}
 use Rattle.chase.proofs.PlaceLaws.{zero-one, digit, digit-inj, digit-le, same-pattern}
 use Rattle.chase.specs.Rules.{Head, Rule}
-use Rattle.chase.specs.Value.{Value, table, values, Value-discrete, generation, deepest}
+use Rattle.chase.specs.Value.{Value, table, values, Value-discrete, generation}
 use Rattle.chase.specs.Making.{Record, Fires, made, freshOf, valueOf, Agree, orElse, carriedValues, makes}
 use Rattle.chase.specs.Run.{Reachable, row, madeFrom}
 use Rattle.chase.specs.Shape.{Shape, shapeOf, Reached, Fired}
 use Rattle.chase.specs.Simplification.{specialized, simplifiedHead, Applies, Derived, ofRow, ofRule, Counts}
 use Rattle.chase.specs.Certificate.{asRecord, shapeMade}
+use Rattle.chase.proofs.Generations.{fresh-later}
 use Rattle.chase.proofs.ListLaws.{map-in, all-of, map-map, map-same}
 use Rattle.chase.proofs.MakingLaws.{OptR, valueOf-rel, valueOf-in-fields, mark-has-value, agree-length, agree-has-value, head-value-carried}
 
--- A fresh number is none of its carried values: it has a later generation.
-pub generation-below : (x : Value) (carried : List Value) → In x carried → generation x ≤ deepest (values carried)
-generation-below x [] i = absurd i
-generation-below x (v ∷ vs) (inl p) = omega (arith, ap generation p)
-generation-below x (v ∷ vs) (inr i) = omega (arith, generation-below x vs i)
-
+-- A fresh number is none of its carried values.
 pub fresh-not-carried : (n m : ℕ) (carried : List Value) (x : Value) → In x carried → freshOf n m carried ≡ x → ⊥
-fresh-not-carried n m cs x i e = omega (arith, ap generation e, generation-below x cs i)
+fresh-not-carried n m cs x i e = omega (arith, ap generation e, fresh-later n m cs x i)
 
 -- Fresh numbers are equal only if they are fixed alike.
 pub values-injective : (us vs : List Value) → values us ≡ values vs → us ≡ vs

@@ -7,7 +7,7 @@ use Prim.Native.Nat.{ℕ, zero, suc, _≤_, max}
 use native.Mathlib.Decide.{ℕ-discrete, decLe}
 use native.Mathlib.Omega.{arith}
 use lib.ListN.{length}
-use Rattle.sheet.specs.Pattern.{lists-discrete, addAll}
+use Rattle.patterns.specs.Pattern.{lists-discrete, addAll}
 use Rattle.chase.specs.Lists.{options-discrete, both?, All, In, in?}
 use Rattle.chase.specs.Rules.{Rule, nth}
 use Rattle.chase.specs.Value.{Value, Value-discrete, values, generation, deepest}
@@ -18,7 +18,8 @@ use Rattle.chase.specs.Counting.{NoTwo, Count}
 use Rattle.chase.specs.Judge.{Bounded}
 use Rattle.chase.specs.Certificate.{asRecord, shapeMade}
 use Rattle.chase.proofs.ListLaws.{map-in, all-in, in-addAll, noTwo-addAll}
-use Rattle.chase.proofs.ShapeLaws.{generation-below, shape-as-record, fires-shape, made-shapeMade}
+use Rattle.chase.proofs.Generations.{generation-below}
+use Rattle.chase.proofs.ShapeLaws.{shape-as-record, fires-shape, made-shapeMade}
 use Rattle.chase.proofs.RunLaws.{start-in, keep-run, left-reachable, reachable-left}
 use Rattle.chase.proofs.StepLaws.{as-record-shape}
 use Rattle.chase.proofs.CertificateLaws.{Met, Says, settles}

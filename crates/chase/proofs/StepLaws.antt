@@ -16,7 +16,8 @@ use Rattle.chase.specs.Shape.{Shape, shapeOf}
 use Rattle.chase.specs.Steps.{Step, after, Each, lastOf, firedOn, firingsOf, Goes, Reaching, Carried, Fresh, FreshAlone, Moves, Follow, lastTo, valueAt, placesOf}
 use Rattle.chase.specs.Certificate.{asRecord, shapeAfter, EachShape, lastShape, shapesOn, placesOn, freshSteps}
 use Rattle.chase.proofs.MakingLaws.{OptR, valueOf-rel, valueOf-in-marks, agree-has-value, no-mark-no-value, in-carriedValues, carriedValues-in}
-use Rattle.chase.proofs.ShapeLaws.{generation-below, shape-as-record, fires-shape, made-shape}
+use Rattle.chase.proofs.Generations.{generation-below}
+use Rattle.chase.proofs.ShapeLaws.{shape-as-record, fires-shape, made-shape}
 use Rattle.chase.proofs.RunLaws.{fire-adds}
 
 -- Elements by their numbers, which count from 1.

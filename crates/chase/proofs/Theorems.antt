@@ -1,23 +1,22 @@
 -- The theorems on the chase that a reader relies on. Each stands first as a sentence; its proof cites the laws. Assumes nothing.
-use mathlib.Core.Path.{_≡_, refl, ap}
+use mathlib.Core.Path.{_≡_, ap}
 use mathlib.Core.Logic.{_↔_, _⊎_}
-use mathlib.Core.List.{List, [], _∷_, map}
-use Prim.Native.Nat.{ℕ, suc, _≤_}
+use mathlib.Core.List.{List, _∷_}
+use Prim.Native.Nat.{ℕ, _≤_}
 use lib.ListN.{length}
 use Rattle.sheet.specs.Line.{Line}
-use Rattle.sheet.specs.Outcome.{good}
+use Rattle.patterns.specs.Outcome.{good}
 use Rattle.chase.specs.Lists.{In}
 use Rattle.chase.proofs.PlaceLaws.{zero-one}
 use Rattle.sheet.specs.Write.{sheetHeld}
 use Rattle.chase.specs.Rules.{Rule, rulesOf, nth}
-use Rattle.chase.specs.Value.{Value, table, values, generation, deepest}
+use Rattle.chase.specs.Value.{Value, table, generation}
 use Rattle.chase.specs.Making.{Record, Agree, freshOf}
 use Rattle.chase.specs.Run.{Firing, rowsOf, start, fire, run, Fits, AllFit, Reachable}
 use Rattle.chase.specs.Shape.{Shape, Reached, Fired}
 use Rattle.chase.specs.Counting.{NoTwo, Count}
 use Rattle.chase.specs.Chase.{Instance, ChaseOf, FiniteDerivation, FairDerivation}
 use Rattle.chase.specs.Simplification.{Derived, Counts}
-use Rattle.chase.specs.Certificate.{largest}
 use Rattle.chase.specs.Judge.{Verdict, Judgement, judged, refuses, Left, Bounded, Unbounded, JudgeMeets}
 use Rattle.chase.proofs.MakingLaws.{agree-length}
 use Rattle.chase.proofs.ShapeLaws.{freshOf-injective, derived-reached, reached-derived, counts-fired, fired-counts}
@@ -38,18 +37,6 @@ fresh-fixed n m k l cs ds = (freshOf-injective n m k l cs ds, λ s. let (p, q, r
 -- A fresh number equals no table value.
 pub fresh-not-table : (n m k : ℕ) (cs : List Value) → freshOf n m cs ≡ table k → ⊥
 fresh-not-table n m k cs e = zero-one cc
-
--- The generation of a fresh number is one more than the largest among its carried values.
-pub fresh-generation : (n m : ℕ) (cs : List Value) → generation (freshOf n m cs) ≡ suc (largest (map generation cs))
-fresh-generation n m cs = ap suc (go cs)
-  where
-    go : (vs : List Value) → deepest (values vs) ≡ largest (map generation vs)
-    go [] = refl
-    go (v ∷ vs) = rw (go vs)
-
--- It is 1 where there are no carried values.
-pub fresh-generation-alone : (n m : ℕ) → generation (freshOf n m []) ≡ 1
-fresh-generation-alone n m = refl
 
 -- FIRING
 

@@ -5,7 +5,7 @@ use mathlib.Core.Option.{Option, none, some}
 use mathlib.Core.Logic.{_⊎_}
 use Prim.Native.Nat.{ℕ}
 use Rattle.sheet.specs.Line.{Line}
-use Rattle.sheet.specs.Pattern.{pick, addAll}
+use Rattle.patterns.specs.Pattern.{pick, addAll}
 use Rattle.chase.specs.Lists.{both?, In, in?}
 use Rattle.chase.specs.Rules.{Head, Rule, rowLines, nth}
 use Rattle.chase.specs.Value.{table}

@@ -13,7 +13,7 @@ use lib.Dec.{eqb, ltb}
 use lib.ListN.{length, getD, take, drop, set, length-drop, length-set}
 use lib.Seq.{drop-cons, getD-drop, getD-set-same, getD-set-other}
 use Rattle.sheet.specs.Line.{H}
-use Rattle.sheet.specs.Pattern.{addAll}
+use Rattle.patterns.specs.Pattern.{addAll}
 use Rattle.chase.specs.Lists.{In, All}
 use Rattle.chase.specs.Rules.{Head, Rule, marksOf}
 use Rattle.chase.specs.Making.{has, keep, carriedMarks}

@@ -8,20 +8,16 @@ use native.Mathlib.Numerals.{add-one}
 use native.Mathlib.Omega.{arith}
 use lib.Dec.{T}
 use lib.ListN.{length, getD}
-use Rattle.sheet.specs.declared.Refusal.{Refusal}
-use Rattle.sheet.specs.declared.Refusal.the-variants.{TextTooLong, FormWrong, OutOfPlace, KindWrong, MarkWrong, OneTooMany, LinesShort, LineWrong, TextShort, FieldCount}
-use Rattle.sheet.specs.Outcome.{Outcome, good, refused}
-use Rattle.sheet.specs.Answer.{refusalSays}
-use Rattle.sheet.specs.Line.{padded}
-use Rattle.sheet.specs.Pattern.{pattern, patterns, numberOf, patternOf, digitsOf}
+use Rattle.patterns.specs.Outcome.{Outcome, good, refused, padded}
+use Rattle.patterns.specs.Pattern.{pattern, patterns, numberOf, patternOf, digitsOf}
 use Rattle.chase.specs.Lists.{In}
 use Rattle.chase.specs.Shape.{Shape}
 use Rattle.chase.proofs.ListLaws.{map-in}
 use Rattle.chase.proofs.ShapeLaws.{pattern-length, pattern-small}
 use Rattle.judging.specs.Table.{KindFits}
 use Rattle.judging.specs.Codes.{shapeAt, codeOf, ShapeFits, CodeIs, DigitsFit}
-use Rattle.sheet.proofs.PatternTheorems.{entries-appear, none-missing, patterns-appear, own-pattern, number-of-entry, numbered}
-use Rattle.sheet.specs.PatternTable.{Pattern, appears}
+use Rattle.patterns.proofs.PatternTheorems.{entries-appear, none-missing, patterns-appear, own-pattern, number-of-entry, numbered}
+use Rattle.patterns.specs.PatternTable.{Pattern, appears}
 
 -- Two shapes are equal where their parts are.
 pub same-shape : {k l : ℕ} {p q : List ℕ} → k ≡ l → p ≡ q → _≡_ {A = Shape} (record { kind = k; pattern = p }) (record { kind = l; pattern = q })
@@ -182,17 +178,5 @@ code-is kind n xs k lo hi e =
 refused-not-good : {number line n : ℕ} → _≡_ {A = Outcome ℕ} (refused number line) (good n) → ⊥
 refused-not-good e = let z : _≡_ {A = ℕ} 0 1 = cc in omega arith
 
-says-not-good : (refusal : Refusal) {n : ℕ} → _≡_ {A = Outcome ℕ} (refusalSays refusal) (good n) → ⊥
-says-not-good TextTooLong e = refused-not-good e
-says-not-good (FormWrong line) e = refused-not-good e
-says-not-good (OutOfPlace line) e = refused-not-good e
-says-not-good (KindWrong line) e = refused-not-good e
-says-not-good (MarkWrong line) e = refused-not-good e
-says-not-good (OneTooMany line) e = refused-not-good e
-says-not-good (LinesShort line) e = refused-not-good e
-says-not-good (LineWrong line) e = refused-not-good e
-says-not-good TextShort e = refused-not-good e
-says-not-good FieldCount e = refused-not-good e
-
-pub not-refused : (refusal : Refusal) (xs : List ℕ) → 1 ≤ length xs → length xs ≤ 6 → refusalSays refusal ≡ patternOf xs → ⊥
-not-refused refusal xs lo hi e = says-not-good refusal (e ∙ numbered xs lo hi)
+pub not-refused : (xs : List ℕ) → 1 ≤ length xs → length xs ≤ 6 → refused 10 0 ≡ patternOf xs → ⊥
+not-refused xs lo hi e = refused-not-good (e ∙ numbered xs lo hi)

@@ -6,7 +6,7 @@ use mathlib.Core.Option.{some}
 use Prim.Native.Nat.{ℕ, suc, _+_, _-_, _*_, _/_, _%_, _≤_, _<_}
 use native.Mathlib.Omega.{arith}
 use lib.ListN.{length, getD}
-use Rattle.sheet.specs.Pattern.{digitsOf}
+use Rattle.patterns.specs.Pattern.{digitsOf}
 use Rattle.chase.specs.Rules.{Head, Rule, nth}
 use Rattle.chase.specs.Simplification.{Applies}
 use Rattle.judging.specs.Table.{rowBytes, ruleIn, firstPlace, BytesFit, TableFits}

@@ -8,7 +8,7 @@ use native.Mathlib.Omega.{arith}
 use lib.Dec.{ltb}
 use lib.ListN.{length, getD, length-map, List·getD-map}
 use borrow.Author.Tests.{ltb-true}
-use Rattle.sheet.specs.Pattern.{patterns, patternsTo, goingOn, led}
+use Rattle.patterns.specs.Pattern.{patterns, patternsTo, goingOn, led}
 use Rattle.chase.specs.Shape.{Shape}
 use Rattle.judging.specs.Codes.{shapeAt}
 

@@ -13,7 +13,7 @@ use lib.Dec.{eqb}
 use lib.ListN.{length, getD, set, take, drop, length-set, length-map, length-drop}
 use lib.Seq.{getD-set-same, getD-set-other, take-all, length-take-le}
 use borrow.Author.Tests.{eq-eqb, ne-eqb}
-use Rattle.sheet.specs.Pattern.{pattern}
+use Rattle.patterns.specs.Pattern.{pattern}
 use Rattle.sheet.specs.Line.{Line}
 use Rattle.sheet.specs.Sheet.{widthOf}
 use Rattle.chase.specs.Rules.{Rule, nth, rowLines}

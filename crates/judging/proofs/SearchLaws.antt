@@ -10,8 +10,8 @@ use native.Mathlib.Numerals.{add-one}
 use native.Mathlib.Omega.{arith}
 use lib.ListN.{length, getD, set, take, drop, length-set}
 use lib.Seq.{getD-set-same, getD-set-other, drop-drop}
-use Rattle.sheet.specs.Pattern.{digitsOf}
-use Rattle.sheet.specs.Line.{padded}
+use Rattle.patterns.specs.Pattern.{digitsOf}
+use Rattle.patterns.specs.Outcome.{padded}
 use Rattle.chase.specs.Lists.{In}
 use Rattle.chase.specs.Rules.{Head, Rule, nth}
 use Rattle.chase.specs.Making.{Record}

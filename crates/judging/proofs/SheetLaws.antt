@@ -10,7 +10,8 @@ use borrow.Author.Tests.{eqb-true, eq-eqb, leb-true, ltb-true}
 use lib.Dec.{eqb, leb, ltb}
 use lib.ListN.{length, getD, take, drop, List·getD-append}
 use lib.Seq.{drop-cons, drop-append-add, drop-drop, drop-nil, take-append-le, getD-drop}
-use Rattle.sheet.specs.Line.{K, B, H, R, Line, wellFormed, known, inRange, formOfLine, lent, lentOf, padded}
+use Rattle.sheet.specs.Line.{K, B, H, R, Line, wellFormed, known, inRange, formOfLine, lent, lentOf}
+use Rattle.patterns.specs.Outcome.{padded}
 use Rattle.sheet.specs.Sheet.{letterBefore, inPlace, kindBefore, widthOf, kindRight, marksFrom, marksRight, markBefore, linesWith, headsBefore, roomFor, refusal, Continues, IsSheet}
 use Rattle.sheet.proofs.FormLaws.{form-says, take-padded}
 use Rattle.sheet.proofs.Lines.{length-lent}

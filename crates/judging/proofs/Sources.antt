@@ -10,7 +10,7 @@ use native.Mathlib.Omega.{arith}
 use lib.Dec.{eqb}
 use lib.ListN.{length, getD}
 use borrow.Author.Tests.{eqb-true, eq-eqb, ne-eqb}
-use Rattle.sheet.specs.Pattern.{pick}
+use Rattle.patterns.specs.Pattern.{pick}
 use Rattle.chase.specs.Lists.{In}
 use Rattle.chase.specs.Rules.{Rule, marksOf, nth}
 use Rattle.chase.specs.Making.{valueOf, has, carriedMarks}

@@ -11,7 +11,8 @@ use borrow.Author.Tests.{eqb-true, eq-eqb, ne-eqb, ltb-true, ltb-false}
 use lib.Dec.{eqb, ltb}
 use lib.ListN.{length, getD, take, drop, length-append, length-drop, drop-of-length-le}
 use lib.Seq.{drop-cons, drop-drop, getD-drop, getD-take, length-take-le, ext-getD}
-use Rattle.sheet.specs.Line.{B, H, Line, padded}
+use Rattle.sheet.specs.Line.{B, H, Line}
+use Rattle.patterns.specs.Outcome.{padded}
 use Rattle.chase.specs.Lists.{All}
 use Rattle.chase.specs.Rules.{Head, Rule, headsOf, rulesOf}
 use Rattle.judging.specs.Table.{SheetHeld, linesIn, rulesIn, ruleIn, rowBytes, tableRules, RuleFits, BytesFit, TableFits}

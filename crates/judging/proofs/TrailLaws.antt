@@ -12,14 +12,14 @@ use borrow.Author.Tests.{eq-eqb, ne-eqb}
 use lib.Dec.{eqb, ltb}
 use lib.ListN.{length, getD, set, take, drop, length-append}
 use lib.Seq.{paste-zero, sets-eq, take-all, take-append-le, take-take, drop-at, take-at, drop-drop, length-take-le, length-paste}
-use Rattle.sheet.specs.Outcome.{Outcome, good, refused, counted}
+use Rattle.patterns.specs.Outcome.{Outcome, good, refused, counted}
 use Rattle.sheet.specs.Line.{B, Line, textOf}
 use Rattle.sheet.specs.Sheet.{letterBefore}
 use Rattle.sheet.specs.Read.{Taken, takes, refuses, inFront, goOn, checked, textLimit}
 use Rattle.sheet.specs.Write.{lineHeld, lineHolds, takenLent, partsOf, sheetHeld, fits, written, writeOf, writeSays}
 use Rattle.sheet.specs.Answer.{refusalSays}
 use Rattle.sheet.specs.declared.Refusal.{Refusal}
-use Rattle.sheet.specs.declared.Refusal.the-variants.{TextTooLong, FormWrong, OutOfPlace, KindWrong, MarkWrong, OneTooMany, LinesShort, LineWrong, TextShort, FieldCount}
+use Rattle.sheet.specs.declared.Refusal.the-variants.{TextTooLong, FormWrong, OutOfPlace, KindWrong, MarkWrong, OneTooMany, LinesShort, LineWrong, TextShort}
 use Rattle.sheet.specs.declared.WriteAnswer.{WriteAnswer}
 use Rattle.sheet.specs.declared.WriteAnswer.the-variants.{Bytes, Refused}
 use Rattle.chase.specs.Steps.{Step, stepNumbers}
@@ -522,7 +522,6 @@ module _ (numbers : List ℕ) (room : ℕ) (answer : WriteAnswer) (e : writeSays
   eight-line (LinesShort l) line q = let z = refused-number q in absurd (omega arith)
   eight-line (LineWrong l) line q = ap LineWrong (refused-line q)
   eight-line TextShort line q = let z = refused-number q in absurd (omega arith)
-  eight-line FieldCount line q = let z = refused-number q in absurd (omega arith)
 
   pub refusal-right : (r : Refusal) → answer ≡ Refused r → ((line : ℕ) → r ≡ LineWrong line → ⊥) → FirstWrong numbers 0
   refusal-right r p other =

@@ -6,7 +6,7 @@ use Prim.Native.Nat.{ℕ, suc, _+_, _*_, _/_, _≤_, _<_}
 use native.Mathlib.Omega.{arith}
 use lib.ListN.{length, getD, take, drop, length-append}
 use lib.Seq.{take-all, take-at, drop-at, drop-drop, drop-append-add}
-use Rattle.sheet.specs.Outcome.{good}
+use Rattle.patterns.specs.Outcome.{good}
 use Rattle.sheet.specs.Line.{Line as SheetLine}
 use Rattle.sheet.specs.Write.{sheetHeld}
 use Rattle.chase.specs.Rules.{Rule, rulesOf}

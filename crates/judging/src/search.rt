@@ -3,7 +3,7 @@ ghost use mathlib.Core.Path.{_≡_};
 ghost use native.Mathlib.Decide.{ℕ-discrete};
 ghost use Prim.Native.Nat.{_+_, _*_, _≤_, _<_};
 ghost use lib.ListN.{length, getD, set};
-ghost use Rattle.sheet.specs.Pattern.{pattern};
+ghost use Rattle.patterns.specs.Pattern.{pattern};
 ghost use Rattle.judging.specs.Table.{SheetHeld, rulesIn, rowsIn, tableRules, KindFits, TableFits};
 ghost use Rattle.judging.specs.Codes.{CodeIs};
 ghost use Rattle.judging.specs.Found.{Searched};

@@ -3,7 +3,7 @@ ghost use mathlib.Core.Path.{_≡_};
 ghost use native.Mathlib.Decide.{ℕ-discrete};
 ghost use Prim.Native.Nat.{_+_, _*_, _≤_, _<_};
 ghost use lib.ListN.{length, getD};
-ghost use Rattle.sheet.specs.Pattern.{pattern};
+ghost use Rattle.patterns.specs.Pattern.{pattern};
 ghost use Rattle.judging.specs.Table.{KindFits, TableFits, rowBytes, ruleIn};
 ghost use Rattle.judging.specs.Codes.{CodeIs, FiresOn, MadeOf, DigitsFit, madeNumber};
 use sheet::PatternAnswer;
@@ -15,7 +15,7 @@ pub(crate) fn shape_code(kind: u32, numbers: &[u32]) -> usize
 {
     match sheet::pattern(numbers) {
         PatternAnswer::Number(n) => 278 * (kind as usize - 1) + n - 1,
-        PatternAnswer::Refused(_) => 0,
+        PatternAnswer::FieldCount => 0,
     }
 }
 

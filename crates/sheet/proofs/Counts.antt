@@ -7,7 +7,7 @@ use native.Mathlib.Omega.{arith}
 use lib.Dec.{ltb}
 use lib.ListN.{length}
 use borrow.Author.Tests.{ltb-false}
-use Rattle.sheet.specs.Outcome.{Outcome, good, refused, counted}
+use Rattle.patterns.specs.Outcome.{Outcome, good, refused, counted}
 use Rattle.sheet.specs.Line.{Line, textOf}
 use Rattle.sheet.specs.Read.{textLimit, sheetIn, withRoom, readOf, ReadMeets}
 use Rattle.sheet.specs.Write.{sheetHeld, fits, written, writeOf, WriteMeets}

@@ -4,8 +4,8 @@ use mathlib.Core.List.{List, [], _∷_, _++_}
 use Prim.Native.Nat.{ℕ}
 use Prim.Native.Char.{code}
 use Prim.Native.String.{String, [] as ended, _∷_ as _then_}
-use Rattle.sheet.specs.Outcome.{good, refused}
-use Rattle.sheet.specs.Column.{column, numberIn}
+use Rattle.patterns.specs.Outcome.{good, refused}
+use Rattle.columns.specs.Column.{column, numberIn}
 use Rattle.sheet.specs.Line.{K, B, H, R, Line, render, formOf, wellFormed, lineIn, lent, lentOf}
 use Rattle.sheet.specs.Sheet.{inPlace, kindRight, marksRight, roomFor, refusal}
 use Rattle.sheet.specs.Read.{takenText, sheetIn, readOf}

@@ -7,7 +7,8 @@ use native.Mathlib.Omega.{arith}
 use borrow.Author.Tests.{eqb-true, leb-true}
 use lib.Dec.{eqb, leb}
 use lib.ListN.{length, getD, take, drop}
-use Rattle.sheet.specs.Line.{K, B, H, R, Line, known, withFields, formOf, formOfLine, padded, lent}
+use Rattle.patterns.specs.Outcome.{padded}
+use Rattle.sheet.specs.Line.{K, B, H, R, Line, known, withFields, formOf, formOfLine, lent}
 use Rattle.sheet.specs.Inner.{FieldsFit}
 use Rattle.sheet.specs.declared.Form.{Form}
 use Rattle.sheet.specs.declared.Form.the-variants.{Kind, Body, Head, Row, Unknown}

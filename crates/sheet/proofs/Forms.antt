@@ -10,8 +10,9 @@ use lib.Dec.{eqb, leb}
 use lib.ListN.{length, getD, take, drop, set, length-append}
 use lib.Seq.{drop-drop}
 use borrow.Author.Tests.{eqb-true, leb-true, eq-eqb, ne-eqb, le-leb, lt-leb}
-use Rattle.sheet.specs.Column.{numberIn}
-use Rattle.sheet.specs.Line.{K, B, H, R, withFields, formOf, known, joined, numbersIn, lineWith, columnCount, lineIn, padded, lent}
+use Rattle.patterns.specs.Outcome.{padded}
+use Rattle.columns.specs.Column.{numberIn}
+use Rattle.sheet.specs.Line.{K, B, H, R, withFields, formOf, known, joined, numbersIn, lineWith, columnCount, lineIn, lent}
 use Rattle.sheet.specs.Inner.{ParsedAs}
 use Rattle.sheet.specs.declared.Form.{Form}
 use Rattle.sheet.specs.declared.Form.the-variants.{Kind, Body, Head, Row, Unknown}

@@ -1,11 +1,8 @@
 -- The laws that the proofs of this crate rest on, and the theorems for a reader: Theorems and Examples.
-pub mod ColumnLaws
-pub mod DigitLaws
 pub mod Forms
 pub mod FormLaws
 pub mod MarkLaws
 pub mod OrderLaws
-pub mod Walking
 pub mod Lines
 pub mod Sheets
 pub mod Reading
@@ -13,10 +10,5 @@ pub mod Writing
 pub mod Counts
 pub mod Refused
 pub mod Outcomes
-pub mod PatternLaws
-pub mod PatternRank
-pub mod PatternRows
-pub mod PatternSteps
 pub mod Theorems
-pub mod PatternTheorems
 pub mod Examples

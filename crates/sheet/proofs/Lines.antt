@@ -9,10 +9,11 @@ use borrow.Author.Tests.{leb-true, le-leb, eqb-true, eqb-false, eq-eqb, ne-eqb}
 use lib.Dec.{eqb, leb}
 use lib.ListN.{length, getD, take, drop, length-append, take-append-drop, drop-of-length-le}
 use lib.Seq.{take-at, drop-at, take-append-seam, drop-append-seam, getD-at, drop-cons, drop-drop}
-use Rattle.sheet.specs.Column.{largestNumber, placeByte, places, column, numberIn}
-use Rattle.sheet.specs.Line.{Line, columns, render, textOf, formOf, known, inRange, formOfLine, wellFormed, joined, numbersIn, lineWith, columnCount, lineIn, padded, lent}
-use Rattle.sheet.specs.Walk.{longer, linesOf, after, lineLength}
-use Rattle.sheet.proofs.ColumnLaws.{length-column, numberIn-column, numberIn-is}
+use Rattle.patterns.specs.Outcome.{padded}
+use Rattle.columns.specs.Column.{largestNumber, placeByte, places, column, numberIn}
+use Rattle.sheet.specs.Line.{Line, columns, render, textOf, formOf, known, inRange, formOfLine, wellFormed, joined, numbersIn, lineWith, columnCount, lineIn, lent}
+use Rattle.walker.specs.Walk.{longer, linesOf, after, lineLength}
+use Rattle.columns.proofs.ColumnLaws.{length-column, numberIn-column, numberIn-is}
 
 -- Tests.
 

@@ -7,7 +7,7 @@ use Prim.Native.Nat.{ℕ, suc, _≤_, _<_}
 use borrow.Author.Tests.{ltb-true, ltb-false, lt-ltb, le-ltb}
 use lib.Dec.{ltb}
 use lib.ListN.{length}
-use Rattle.sheet.specs.Outcome.{Outcome, good, refused}
+use Rattle.patterns.specs.Outcome.{Outcome, good, refused}
 use Rattle.sheet.specs.Line.{Line, textOf}
 use Rattle.sheet.specs.Read.{sheetIn, textLimit, withRoom, readOf}
 use Rattle.sheet.specs.Write.{sheetHeld, written, writeOf}

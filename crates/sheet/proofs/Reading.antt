@@ -10,11 +10,11 @@ use borrow.Author.Tests.{lt-ltb, le-ltb, eq-eqb, ne-eqb}
 use lib.Dec.{eqb}
 use lib.ListN.{length, getD, take, drop, replicate, length-append, length-drop, drop-of-length-le}
 use lib.Seq.{paste, length-take-le, take-at, take-all, take-append-seam, drop-append-seam, drop-append-add, drop-drop}
-use Rattle.sheet.specs.Outcome.{Outcome, good, refused, mapGood, counted}
+use Rattle.patterns.specs.Outcome.{Outcome, good, refused, mapGood, counted}
 use Rattle.sheet.specs.Answer.{refusalSays}
 use Rattle.sheet.specs.Line.{B, Line, known, inRange, formOfLine, wellFormed, lineIn, render, lent, textOf, lentOf}
 use Rattle.sheet.specs.Sheet.{letterBefore, refusal}
-use Rattle.sheet.specs.Walk.{linesOf, lineLength, lineAt, after}
+use Rattle.walker.specs.Walk.{linesOf, lineLength, lineAt, after}
 use Rattle.sheet.specs.Read.{inFront, goOn, checked, tested, testedIn, takenText, sheetIn, readOf, withRoom, ReadMeets}
 use Rattle.sheet.specs.Inner.{ParsedAs, FieldsFit, Keeps, NothingSeen, AdmittedAs, Admits, LinesFit, LinesFilled}
 use Rattle.sheet.specs.declared.Form.{Form}
@@ -30,7 +30,6 @@ use Rattle.sheet.specs.declared.Refusal.the-variants.{
   LinesShort,
   LineWrong,
   TextShort,
-  FieldCount,
 }
 use Rattle.sheet.specs.declared.ReadAnswer.the-variants.{Lines, Refused}
 use Rattle.sheet.specs.declared.order.Seen.{Seen}
@@ -315,7 +314,6 @@ says≢good (OneTooMany line) n e = refused≢good e
 says≢good (LinesShort line) n e = refused≢good e
 says≢good (LineWrong line) n e = refused≢good e
 says≢good TextShort n e = refused≢good e
-says≢good FieldCount n e = refused≢good e
 
 pub read-too-long : (text before : List ℕ) → 32768 < length text → ReadMeets text before (Refused TextTooLong) before
 unfolding readOf

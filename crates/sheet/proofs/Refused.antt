@@ -9,10 +9,10 @@ use native.Mathlib.Omega.{arith}
 use borrow.Author.Tests.{eqb-true, eq-eqb}
 use lib.Dec.{eqb}
 use lib.ListN.{length, length-reverse}
-use Rattle.sheet.specs.Outcome.{Outcome, good, refused}
+use Rattle.patterns.specs.Outcome.{Outcome, good, refused}
 use Rattle.sheet.specs.Line.{B, Line, render, textOf, wellFormed, lineIn, lent, lentOf}
 use Rattle.sheet.specs.Sheet.{letterBefore, refusal}
-use Rattle.sheet.specs.Walk.{linesOf}
+use Rattle.walker.specs.Walk.{linesOf}
 use Rattle.sheet.specs.Read.{Taken, takes, refuses, inFront, goOn, checked, tested, testedIn, takenText, sheetIn}
 use Rattle.sheet.specs.Write.{lineHeld, lineHolds, takenLent, partsOf, sheetHeld}
 use Rattle.sheet.specs.Refusals.{TakenAfter, TextFault, LentFault, RefusedAt, TextRefused, LentRefused}

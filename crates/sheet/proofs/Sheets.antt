@@ -9,11 +9,11 @@ use borrow.Author.Tests.{leb-true, eqb-true, eqb-false, eq-eqb, ne-eqb}
 use lib.Dec.{eqb, leb, ltb}
 use lib.ListN.{length, take, drop, length-append, length-drop, take-append-drop}
 use lib.Seq.{take-at, drop-at}
-use Rattle.sheet.specs.Outcome.{Outcome, good, refused}
-use Rattle.sheet.specs.Column.{same}
-use Rattle.sheet.specs.Line.{K, B, H, R, Line, render, textOf, withFields, formOf, known, inRange, formOfLine, wellFormed, lineIn, padded, lent, lentOf}
+use Rattle.patterns.specs.Outcome.{Outcome, good, refused, padded}
+use Rattle.columns.specs.Column.{same}
+use Rattle.sheet.specs.Line.{K, B, H, R, Line, render, textOf, withFields, formOf, known, inRange, formOfLine, wellFormed, lineIn, lent, lentOf}
 use Rattle.sheet.specs.Sheet.{letterBefore, widthOf, inPlace, kindRight, marksRight, roomFor, refusal, Continues, IsSheet}
-use Rattle.sheet.specs.Walk.{linesOf}
+use Rattle.walker.specs.Walk.{linesOf}
 use Rattle.sheet.specs.Read.{Taken, takes, refuses, inFront, goOn, checked, tested, testedIn, takenText, sheetIn}
 use Rattle.sheet.specs.Write.{usedNumbers, lineHeld, lineHolds, takenLent, partsOf, sheetHeld}
 use Rattle.sheet.specs.declared.Form.{Form}

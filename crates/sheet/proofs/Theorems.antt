@@ -5,7 +5,7 @@ use mathlib.Core.List.{List}
 use Prim.Native.Nat.{ℕ, suc, _*_, _≤_, _<_}
 use native.Mathlib.Omega.{arith}
 use lib.ListN.{length}
-use Rattle.sheet.specs.Outcome.{good, refused}
+use Rattle.patterns.specs.Outcome.{good, refused}
 use Rattle.sheet.specs.Line.{Line, textOf, lentOf}
 use Rattle.sheet.specs.Sheet.{IsSheet}
 use Rattle.sheet.specs.Read.{sheetIn, textLimit, readOf}

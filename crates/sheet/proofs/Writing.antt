@@ -12,9 +12,9 @@ use borrow.Author.Tests.{lt-ltb, le-ltb, le-leb, lt-leb, eq-eqb, ne-eqb, eqb-tru
 use lib.Dec.{eqb, leb, ltb}
 use lib.ListN.{length, getD, take, drop, set, replicate, length-append, length-set, length-take, length-drop, drop-of-length-le}
 use lib.Seq.{take-all, take-nil, drop-cons, set-split, take-suc, take-at, drop-at, drop-append-add, length-take-le, paste, paste-zero, getD-drop, getD-set-same, getD-set-other}
-use Rattle.sheet.specs.Column.{column, largestNumber}
-use Rattle.sheet.specs.Line.{K, B, H, R, Line, columns, render, textOf, formOf, known, inRange, formOfLine, wellFormed, padded, lent, lentOf}
-use Rattle.sheet.specs.Outcome.{Outcome, good, refused, mapGood, held}
+use Rattle.columns.specs.Column.{column, largestNumber}
+use Rattle.sheet.specs.Line.{K, B, H, R, Line, columns, render, textOf, formOf, known, inRange, formOfLine, wellFormed, lent, lentOf}
+use Rattle.patterns.specs.Outcome.{Outcome, good, refused, mapGood, held, padded}
 use Rattle.sheet.specs.Sheet.{letterBefore, kindBefore, widthOf, inPlace, kindRight, roomFor, linesWith, headsBefore, refusal, Continues}
 use Rattle.sheet.specs.Read.{takes, refuses, inFront, goOn, checked}
 use Rattle.sheet.specs.Write.{takenLent, lineHeld, lineHolds, partsOf, sheetHeld, WriteMeets, writeOf, writeSays, written}
@@ -27,7 +27,7 @@ use Rattle.sheet.specs.declared.Form.the-variants.{Kind, Body, Head, Row
 use Rattle.sheet.specs.declared.order.Seen.{Seen}
 use Rattle.sheet.specs.declared.order.Admitted.{Admitted}
 use Rattle.sheet.specs.declared.order.Admitted.the-variants.{Yes, No}
-use Rattle.sheet.proofs.ColumnLaws.{length-column}
+use Rattle.columns.proofs.ColumnLaws.{length-column}
 use Rattle.sheet.proofs.Lines.{both, drop-twice, length-render, length-lent}
 use Rattle.sheet.proofs.FormLaws.{Fielded, letterOf, fieldsOf, form-says, take-padded}
 use Rattle.sheet.proofs.Sheets.{parts-at, lent-shows, sheetHeld-is, Passes, refusal-passes}

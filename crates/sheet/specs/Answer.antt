@@ -1,6 +1,6 @@
 -- The number and line that document 01 gives each refusal. Assumes nothing.
 use Prim.Native.Nat.{ℕ}
-use Rattle.sheet.specs.Outcome.{Outcome, refused}
+use Rattle.patterns.specs.Outcome.{Outcome, refused}
 use Rattle.sheet.specs.declared.Refusal.{Refusal}
 use Rattle.sheet.specs.declared.Refusal.the-variants.{
   TextTooLong,
@@ -12,7 +12,6 @@ use Rattle.sheet.specs.declared.Refusal.the-variants.{
   LinesShort,
   LineWrong,
   TextShort,
-  FieldCount,
 }
 
 abbrev pub refusalNumber : Refusal → ℕ
@@ -25,7 +24,6 @@ refusalNumber (OneTooMany line) = 6
 refusalNumber (LinesShort line) = 7
 refusalNumber (LineWrong line) = 8
 refusalNumber TextShort = 9
-refusalNumber FieldCount = 10
 
 -- Line 0 where none is named.
 abbrev pub refusalLine : Refusal → ℕ
@@ -38,7 +36,6 @@ refusalLine (OneTooMany line) = line
 refusalLine (LinesShort line) = line
 refusalLine (LineWrong line) = line
 refusalLine TextShort = 0
-refusalLine FieldCount = 0
 
 abbrev pub refusalSays : {A : Type 0} → Refusal → Outcome A
 refusalSays r = refused (refusalNumber r) (refusalLine r)

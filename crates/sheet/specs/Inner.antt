@@ -6,7 +6,7 @@ use mathlib.Core.Option.{Option, none, some}
 use Prim.Native.Nat.{ℕ, zero, suc, _+_, _*_, _≤_, _<_}
 use lib.Dec.{eqb, leb, ltb}
 use lib.ListN.{length, getD, take, drop}
-use Rattle.sheet.specs.Outcome.{Outcome, good, refused, mapGood, held}
+use Rattle.patterns.specs.Outcome.{Outcome, good, refused, mapGood, held}
 use Rattle.sheet.specs.Answer.{refusalSays}
 use Rattle.sheet.specs.Line.{K, B, R, Line, formOfLine, inRange, render, lent, textOf, lentOf}
 use Rattle.sheet.specs.Sheet.{inPlace, letterBefore, kindBefore, widthOf, topMark, marksFrom, markBefore, linesWith, headsBefore, refusal}
@@ -15,17 +15,11 @@ use Rattle.sheet.specs.Write.{sheetHeld}
 use Rattle.sheet.specs.declared.Refusal.{Refusal}
 use Rattle.sheet.specs.declared.Form.{Form}
 use Rattle.sheet.specs.declared.Form.the-variants.{Kind, Body, Head, Row, Unknown}
-use Rattle.sheet.specs.declared.columns.Number.{Number}
-use Rattle.sheet.specs.declared.columns.Number.the-variants.{Is, NotOne}
 use Rattle.sheet.specs.declared.order.Seen.{Seen}
 use Rattle.sheet.specs.declared.order.Admitted.{Admitted}
 use Rattle.sheet.specs.declared.order.Admitted.the-variants.{Yes, No}
 use Rattle.sheet.specs.declared.lent.Measured.{Measured}
 use Rattle.sheet.specs.declared.lent.Measured.the-variants.{Size, Wrong}
-
-abbrev pub numberSays : Number → Option ℕ
-numberSays (Is n) = some n
-numberSays NotOne = none
 
 -- What is parsed of a line.
 abbrev pub ParsedAs : Option Line → Form → List ℕ → Type 0

@@ -5,7 +5,8 @@ use mathlib.Core.Option.{Option, none, some}
 use Prim.Native.Nat.{ℕ, zero, suc, _+_, _-_, _*_, _/_}
 use lib.Dec.{eqb, leb}
 use lib.ListN.{length, getD, take, drop}
-use Rattle.sheet.specs.Column.{largestNumber, column, numberIn}
+use Rattle.patterns.specs.Outcome.{padded}
+use Rattle.columns.specs.Column.{largestNumber, column, numberIn}
 use Rattle.sheet.specs.declared.Form.{Form}
 use Rattle.sheet.specs.declared.Form.the-variants.{Kind, Body, Head, Row, Unknown}
 
@@ -100,12 +101,6 @@ lineIn bytes =
 -- How many numbers a lent line has.
 abbrev pub lineSize : ℕ
 lineSize = 8
-
--- The numbers in so many places, 0 in the unused ones.
-abbrev pub padded : ℕ → List ℕ → List ℕ
-padded zero ns = []
-padded (suc w) [] = 0 ∷ padded w []
-padded (suc w) (n ∷ ns) = n ∷ padded w ns
 
 -- A line as lent: the letter's byte, the kind, six numbers.
 unfoldable pub lent : Line → List ℕ

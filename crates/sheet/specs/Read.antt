@@ -6,10 +6,10 @@ use mathlib.Core.Option.{Option, none, some}
 use Prim.Native.Nat.{ℕ, zero, suc, _/_}
 use lib.Dec.{eqb, ltb}
 use lib.ListN.{length}
-use Rattle.sheet.specs.Outcome.{Outcome, good, refused, mapGood, counted, held}
+use Rattle.patterns.specs.Outcome.{Outcome, good, refused, mapGood, counted, held}
 use Rattle.sheet.specs.Line.{B, Line, lineIn, lineSize, lentOf}
 use Rattle.sheet.specs.Sheet.{letterBefore, refusal}
-use Rattle.sheet.specs.Walk.{linesOf}
+use Rattle.walker.specs.Walk.{linesOf}
 use Rattle.sheet.specs.Answer.{refusalSays}
 use Rattle.sheet.specs.declared.ReadAnswer.{ReadAnswer}
 use Rattle.sheet.specs.declared.ReadAnswer.the-variants.{Lines, Refused}

@@ -5,8 +5,8 @@ use mathlib.Core.List.{List, [], _∷_}
 use Prim.Native.Nat.{ℕ, zero, suc}
 use lib.Dec.{eqb, ltb}
 use lib.ListN.{length, getD, take, drop}
-use Rattle.sheet.specs.Outcome.{Outcome, good, refused, counted, held}
-use Rattle.sheet.specs.Column.{same}
+use Rattle.patterns.specs.Outcome.{Outcome, good, refused, counted, held}
+use Rattle.columns.specs.Column.{same}
 use Rattle.sheet.specs.Line.{K, Line, wellFormed, lineSize, lent, textOf}
 use Rattle.sheet.specs.Sheet.{widthOf, refusal}
 use Rattle.sheet.specs.Read.{Taken, takes, refuses, checked, textLimit}

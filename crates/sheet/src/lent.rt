@@ -4,10 +4,11 @@ ghost use mathlib.Core.Bool.{cond};
 ghost use Prim.Native.Nat.{_+_, _*_, _≤_, _<_};
 ghost use lib.Dec.{eqb};
 ghost use lib.ListN.{length, getD, set, take, drop};
-ghost use Rattle.sheet.specs.Outcome.{mapGood};
+ghost use lib.Seq.{paste};
+ghost use Rattle.columns.specs.Column.{column as columnOf};
+ghost use Rattle.patterns.specs.Outcome.{mapGood};
 ghost use Rattle.sheet.specs.Write.{sheetHeld};
 ghost use Rattle.sheet.specs.Inner.{measuredSays, sizeOf, usedOf, rangesRight, TextFits, TextFilled, LinePut};
-use crate::columns::put_column;
 use crate::line::take_apart;
 use crate::order::Admitted;
 use crate::order::admit;
@@ -108,6 +109,19 @@ pub(crate) fn measure(lines: &[u32]) -> Measured
         return Measured::Wrong(n + 1);
     }
     Measured::Size(size)
+}
+
+// Puts the column of `n` at `at`.
+fn put_column(text: &mut [u8], at: usize, n: u32)
+    requires { ⌜ at + 9 ≤ length (now text) ⌝ }
+    ensures { λ _. ⌜ now (text .exit) ≡ paste (now (text .entry)) at (columnOf n) 9 ⌝ }
+{
+    let bytes = columns::column(n);
+    let mut i: usize = 0;
+    while i < 9 {
+        text[at + i] = bytes[i];
+        i += 1;
+    }
 }
 
 // Puts a line's text at `at`: its letter, its kind and `fields` numbers in columns, byte 10.

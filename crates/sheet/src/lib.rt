@@ -1,13 +1,11 @@
 // Sheets of follow-up rules: text to lines, lines to text, and the pattern of a record.
-mod columns;
 mod lent;
 mod line;
 mod order;
-mod patterns;
 mod text;
-pub mod walker;
 
 pub use columns::column;
+pub use patterns::PatternAnswer;
 pub use patterns::digits;
 pub use patterns::pattern;
 ghost use mathlib.Core.Path.{_≡_};
@@ -36,8 +34,6 @@ pub enum Refusal {
     LineWrong(usize),
     // The lent text is too short.
     TextShort,
-    // No number, or more than six.
-    FieldCount,
 }
 
 // A refusal in document 01's numbers; line 0 where none is named.
@@ -55,12 +51,6 @@ pub enum ReadAnswer {
 // What write answers: how many bytes it wrote, or the refusal.
 pub enum WriteAnswer {
     Bytes(usize),
-    Refused(Refusal),
-}
-
-// What pattern answers: the number of the pattern, or the refusal.
-pub enum PatternAnswer {
-    Number(usize),
     Refused(Refusal),
 }
 
@@ -127,9 +117,5 @@ pub fn refusal_numbers(refusal: Refusal) -> RefusalNumbers
         Refusal::LinesShort(line) => RefusalNumbers { number: 7, line },
         Refusal::LineWrong(line) => RefusalNumbers { number: 8, line },
         Refusal::TextShort => RefusalNumbers { number: 9, line: 0 },
-        Refusal::FieldCount => RefusalNumbers {
-            number: 10,
-            line: 0,
-        },
     }
 }

@@ -3,14 +3,19 @@ ghost use mathlib.Core.Path.{_≡_};
 ghost use Rattle.sheet.specs.Line.{formOf, lineIn};
 ghost use Rattle.sheet.specs.Inner.{ParsedAs};
 use crate::Form;
-use crate::columns::Number;
-use crate::columns::number_at;
-use crate::columns::wide;
+use columns::Number;
+use columns::number_at;
 
 // A line that was read: its form, and its eight lent numbers where it has one.
 pub(crate) struct Parsed {
     pub form: Form,
     pub numbers: [u32; 8],
+}
+
+pub(crate) fn wide(b: u8) -> u32
+    ensures { λ r. ⌜ r ≡ b ⌝ }
+{
+    b as u32
 }
 
 // The letter and the column count decide.

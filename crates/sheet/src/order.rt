@@ -7,7 +7,7 @@ ghost use lib.ListN.{length, getD, take, drop};
 ghost use Rattle.sheet.specs.Sheet.{inPlace};
 ghost use Rattle.sheet.specs.Inner.{NothingSeen, Admits, FieldsFit, marksTop, placedOf, declares};
 use crate::Form;
-use crate::columns::wide;
+use crate::line::wide;
 
 // What is kept of the lines before. `mark` is the largest of the open rule's marks, `heads` the number of its H lines.
 pub(crate) struct Seen {

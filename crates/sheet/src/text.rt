@@ -4,7 +4,7 @@ ghost use mathlib.Core.List.{_++_};
 ghost use Prim.Native.Nat.{_+_, _*_, _≤_};
 ghost use lib.ListN.{length, take, drop};
 ghost use lib.Seq.{paste};
-ghost use Rattle.sheet.specs.Outcome.{counted, refused};
+ghost use Rattle.patterns.specs.Outcome.{counted, refused};
 ghost use Rattle.sheet.specs.Answer.{refusalSays};
 ghost use Rattle.sheet.specs.Line.{lentOf};
 ghost use Rattle.sheet.specs.Read.{sheetIn, readSays};
@@ -15,7 +15,7 @@ use crate::line::parse;
 use crate::order::Admitted;
 use crate::order::admit;
 use crate::order::nothing_seen;
-use crate::walker::line_from;
+use walker::line_from;
 
 // The refusal with this number, 2 to 6, at a line.
 fn refusal_at(number: u32, line: usize) -> Refusal

@@ -36,8 +36,8 @@ returns-3 : tie.Need-returns-3
 returns-3 c =
     let refusal = c .before .before .refusal .given in
     refusal-right _ 1 _ (c .before .before .before .before .before .write .ensures .says) _ (refusal .1)
-    (λ line e. miss (0 ∷ 1 ∷ 2 ∷ 3 ∷ 4 ∷ 5 ∷ 6 ∷ 8 ∷ 9 ∷ []) 7 tt
-    (subst (λ r. OneOf (0 ∷ 1 ∷ 2 ∷ 3 ∷ 4 ∷ 5 ∷ 6 ∷ 8 ∷ 9 ∷ []) (tagOf the-type r)) e (c .match2 .keys2)))
+    (λ line e. miss (0 ∷ 1 ∷ 2 ∷ 3 ∷ 4 ∷ 5 ∷ 6 ∷ 8 ∷ []) 7 tt
+    (subst (λ r. OneOf (0 ∷ 1 ∷ 2 ∷ 3 ∷ 4 ∷ 5 ∷ 6 ∷ 8 ∷ []) (tagOf the-type r)) e (c .match2 .keys2)))
 
 pub first-wrong-spec : {M : Type 1} → statement M
 first-wrong-spec =

@@ -2,7 +2,7 @@
 use mathlib.Core.Path.{_≡_}
 use borrow.Author.Needs.{needs}
 use denote.Ref.{now}
-use Rattle.sheet.specs.Outcome.{good, counted}
+use Rattle.patterns.specs.Outcome.{good, counted}
 use Rattle.sheet.specs.Read.{sheetIn}
 use Rattle.sheet.proofs.Reading.{read-too-long, read-refused, read-short, read-fits, read-filled}
 use Rattle.sheet.proofs.read.Statement.{statement}

@@ -2,7 +2,7 @@
 use mathlib.Core.Path.{_≡_, sym, ap, _∙_}
 use borrow.Author.Needs.{needs}
 use denote.Ref.{now}
-use Rattle.sheet.specs.Outcome.{good, mapGood}
+use Rattle.patterns.specs.Outcome.{good, mapGood}
 use Rattle.sheet.specs.Write.{sheetHeld}
 use Rattle.sheet.specs.Inner.{measuredSays, sizeOf}
 use Rattle.sheet.proofs.Writing.{write-wrong, write-long, write-short, text-fits, write-good}

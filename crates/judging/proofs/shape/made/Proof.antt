@@ -5,7 +5,7 @@ use Prim.Native.Nat.{ℕ, _+_, _-_, _*_, _<_}
 use native.Mathlib.Decide.{ℕ-discrete}
 use native.Mathlib.Omega.{arith}
 use lib.ListN.{length, take, length-take}
-use Rattle.sheet.specs.Pattern.{pattern}
+use Rattle.patterns.specs.Pattern.{pattern}
 use Rattle.judging.specs.Table.{ruleIn, rowBytes}
 use Rattle.judging.specs.Codes.{CodeIs, madeNumber}
 use Rattle.judging.proofs.RuleLaws.{RowFits, row-fits, headAt, head-below, head-fits, Width, Mark, head-width-read, head-mark-read, Filled, filled-none, filled-more, filled-all, made-of}

@@ -10,7 +10,7 @@ use borrow.Kind.Array.{good-length, eInt}
 use denote.Ref.{now}
 use mir.Syntax.{w32}
 use lib.ListN.{take, drop, replicate, length, getD}
-use Rattle.sheet.specs.Outcome.{refused, mapGood}
+use Rattle.patterns.specs.Outcome.{refused, mapGood}
 use Rattle.sheet.specs.Line.{Line}
 use Rattle.sheet.specs.Write.{sheetHeld}
 use Rattle.sheet.specs.Inner.{Widths, FieldsFit, sizeOf}

@@ -9,7 +9,7 @@ use denote.Ref.{now}
 use mir.Syntax.{w32}
 use lib.ListN.{length, getD, set, take, drop, length-set}
 use lib.Seq.{paste, paste-zero}
-use Rattle.sheet.specs.Column.{column}
+use Rattle.columns.specs.Column.{column}
 use Rattle.sheet.specs.Line.{columns}
 use Rattle.sheet.proofs.Writing.{put, columns-long, column-put, line-put}
 use Rattle.sheet.proofs.lent.put_line.Statement.{statement}

@@ -8,7 +8,7 @@ use mathlib.Core.Bool.{true}
 use types.Run.{OneOf, miss}
 use denote.Enum.Declared.{tagOf}
 use Rattle.sheet.specs.Line.{known}
-use Rattle.sheet.specs.Inner.{numberSays}
+use Rattle.columns.specs.Column.{numberSays}
 use Rattle.sheet.specs.declared.Form.{Form}
 use Rattle.sheet.specs.declared.Form.the-variants.{Kind, Body, Head, Row, Unknown}
 use Rattle.sheet.proofs.Form.{the-type}

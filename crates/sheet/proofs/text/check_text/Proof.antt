@@ -6,7 +6,7 @@ use borrow.Author.Needs.{needs}
 use native.Mathlib.Omega.{arith}
 use denote.Ref.{now}
 use lib.ListN.{length}
-use Rattle.sheet.specs.Outcome.{counted, refused}
+use Rattle.patterns.specs.Outcome.{counted, refused}
 use Rattle.sheet.specs.Line.{lineIn}
 use Rattle.sheet.specs.Read.{sheetIn}
 use Rattle.sheet.proofs.Reading.{Reading, begun, parsed-fit, line-taken, line-refused, ended-open, ended}

@@ -1,0 +1,90 @@
+-- The laws of columns: a column has nine bytes, a number's column is read as the number, and nothing else is read as it. Assumes nothing.
+use mathlib.Core.Path.{_≡_, refl, _∙_}
+use mathlib.Core.Bool.{Bool, true, false, cond, _&&_}
+use mathlib.Core.List.{List, [], _∷_, _++_}
+use mathlib.Core.Option.{Option, none, some}
+use Prim.Native.Nat.{ℕ, zero, suc, _+_, _-_, _*_, _/_, _%_, _^_, _≤_, _<_}
+use native.Mathlib.Nat.{add-sub-cancel-left, div-add-mod, pow-suc}
+use native.Mathlib.Omega.{arith}
+use lib.Dec.{eqb, leb}
+use lib.ListN.{length, length-append}
+use borrow.Author.Tests.{le-leb, eq-eqb, eqb-true, leb-true}
+use Rattle.columns.specs.Column.{largestNumber, placeByte, places, column, decimal, same, numberIn}
+
+pub length-places : (w n : ℕ) → length (places w n) ≡ w
+length-places zero n = refl
+length-places (suc w) n = simp (length-append, length-places w) (omega arith)
+
+pub length-column : (n : ℕ) → length (column n) ≡ 9
+unfolding column
+length-column n = refl
+
+decimal-append : (m : ℕ) (xs ys : List ℕ) → decimal m (xs ++ ys) ≡ decimal (decimal m xs) ys
+decimal-append m [] ys = refl
+decimal-append m (x ∷ xs) ys = decimal-append (10 * m + (x - 48)) xs ys
+
+placeByte-shows-digit : (n : ℕ) → placeByte n - 48 ≡ n % 10
+placeByte-shows-digit zero = refl
+placeByte-shows-digit (suc n) = add-sub-cancel-left 48 (suc n % 10)
+
+-- The bytes of a number's places show the number.
+pub decimal-places : (w n : ℕ) → n < 10 ^ w → decimal 0 (places w n) ≡ n
+decimal-places zero n h = omega arith
+decimal-places (suc w) n h =
+    let small : n / 10 < 10 ^ w = omega (arith, pow-suc 10 w) in
+    decimal-append 0 (places w (n / 10)) (placeByte n ∷ [])
+    ∙ rw (decimal-places w (n / 10) small, placeByte-shows-digit) (div-add-mod n 10)
+
+decimal-column : (n : ℕ) → n ≤ largestNumber → decimal 0 (column n) ≡ n
+unfolding column
+decimal-column n h =
+    let small : n / 10 < 10 ^ 8 = omega arith in
+    decimal-append 0 (places 8 (n / 10)) ((48 + (n % 10)) ∷ [])
+    ∙ rw (decimal-places 8 (n / 10) small, add-sub-cancel-left) (div-add-mod n 10)
+
+same-refl : (xs : List ℕ) → same xs xs ≡ true
+same-refl [] = refl
+same-refl (x ∷ xs) = rw (eq-eqb x x refl) (same-refl xs)
+
+both-true : (a b : Bool) → a && b ≡ true → (a ≡ true) × (b ≡ true)
+both-true true b e = (refl, e)
+both-true false b e = (e, cc)
+
+same-true : (xs ys : List ℕ) → same xs ys ≡ true → xs ≡ ys
+same-true [] [] e = refl
+same-true [] (y ∷ ys) e = cc
+same-true (x ∷ xs) [] e = cc
+same-true (x ∷ xs) (y ∷ ys) e =
+    let both = both-true (eqb x y) (same xs ys) e in
+    let head = eqb-true x y (both .0) in
+    let tail = same-true xs ys (both .1) in
+    cc
+
+pub numberIn-column : (n : ℕ) → n ≤ largestNumber → numberIn (column n) ≡ some n
+unfolding numberIn
+numberIn-column n h = rw (decimal-column n h) (rw (le-leb n largestNumber h) (rw (same-refl (column n))))
+
+chosen : (a b : Bool) (m n : ℕ) → cond (a && b) (some m) none ≡ some n → (a ≡ true) × (b ≡ true) × (m ≡ n)
+chosen true true m n e = (refl, refl, cc)
+chosen true false m n e = (refl, cc, cc)
+chosen false b m n e = (cc, cc, cc)
+
+pub numberIn-is : (bytes : List ℕ) (n : ℕ) → numberIn bytes ≡ some n → (bytes ≡ column n) × (n ≤ largestNumber)
+unfolding numberIn
+numberIn-is bytes n e =
+    let all = chosen (leb (decimal 0 bytes) largestNumber) (same (column (decimal 0 bytes)) bytes) (decimal 0 bytes) n e in
+    let is = same-true (column (decimal 0 bytes)) bytes (all .1) in
+    let shown = all .2 in
+    let fits = leb-true (decimal 0 bytes) largestNumber (all .0) in
+    (cc, omega arith)
+
+none-or-some : (x : Option ℕ) → ((n : ℕ) → x ≡ some n → ⊥) → x ≡ none
+none-or-some none h = refl
+none-or-some (some n) h = absurd (h n refl)
+
+pub numberIn-none : (bytes : List ℕ) → ((n : ℕ) → n ≤ largestNumber → bytes ≡ column n → ⊥) → numberIn bytes ≡ none
+numberIn-none bytes h = none-or-some (numberIn bytes) (λ n e. let is = numberIn-is bytes n e in h n (is .1) (is .0))
+
+pub placeByte-nonzero : (n : ℕ) → (n ≡ 0 → ⊥) → 48 + n % 10 ≡ placeByte n
+placeByte-nonzero zero h = absurd (h refl)
+placeByte-nonzero (suc n) h = refl

@@ -1,0 +1,3 @@
+-- The laws that the proofs of this crate rest on.
+pub mod ColumnLaws
+pub mod DigitLaws

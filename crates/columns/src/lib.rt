@@ -1,0 +1,106 @@
+// Columns: the nine bytes that hold a number.
+ghost use mathlib.Core.Path.{_≡_};
+ghost use Prim.Native.Nat.{_+_, _≤_};
+ghost use lib.ListN.{length, take, drop};
+ghost use Rattle.columns.specs.Column.{placeByte, column as columnOf, numberIn, numberSays};
+
+// What nine bytes are read as.
+pub enum Number {
+    Is(u32),
+    NotOne,
+}
+
+// The byte at a place that is not the last, where `rest` is the number without the digits to the right of the place.
+fn place(rest: u32) -> u8
+    ensures { λ r. ⌜ r ≡ placeByte rest ⌝ }
+{
+    if rest == 0 {
+        return b' ';
+    }
+    48 + (rest % 10) as u8
+}
+
+// The column of `n`: its digits right-justified in nine places, blanks before them.
+pub fn column(n: u32) -> [u8; 9]
+    ensures { λ r. ⌜ r ≡ columnOf n ⌝ }
+{
+    let n1 = n / 10;
+    let n2 = n1 / 10;
+    let n3 = n2 / 10;
+    let n4 = n3 / 10;
+    let n5 = n4 / 10;
+    let n6 = n5 / 10;
+    let n7 = n6 / 10;
+    let n8 = n7 / 10;
+    let last = 48 + (n % 10) as u8;
+    [
+        place(n8),
+        place(n7),
+        place(n6),
+        place(n5),
+        place(n4),
+        place(n3),
+        place(n2),
+        place(n1),
+        last,
+    ]
+}
+
+fn wide(b: u8) -> u32
+    ensures { λ r. ⌜ r ≡ b ⌝ }
+{
+    b as u32
+}
+
+// The number whose column the nine bytes at `at` are, where there are nine.
+fn read_column(s: &[u8], at: usize) -> Number
+    requires { ⌜ at + 9 ≤ length (now s) ⌝ }
+    ensures { λ r. ⌜ numberSays r ≡ numberIn (take 9 (drop at (now (s .entry)))) ⌝ }
+{
+    if s[at] != b' ' {
+        return Number::NotOne;
+    }
+    let mut n: u32 = 0;
+    let mut i: usize = 1;
+    while i < 8 {
+        let b = s[at + i];
+        if b == b' ' {
+            if n != 0 {
+                return Number::NotOne;
+            }
+        } else {
+            if b < 48 {
+                return Number::NotOne;
+            }
+            if 57 < b {
+                return Number::NotOne;
+            }
+            n = 10 * n + wide(b - 48);
+            if n == 0 {
+                return Number::NotOne;
+            }
+        }
+        i += 1;
+    }
+    let last = s[at + 8];
+    if last < 48 {
+        return Number::NotOne;
+    }
+    if 57 < last {
+        return Number::NotOne;
+    }
+    Number::Is(10 * n + wide(last - 48))
+}
+
+// The number whose column the nine bytes at `at` are.
+pub fn number_at(s: &[u8], at: usize) -> Number
+    ensures { λ r. ⌜ numberSays r ≡ numberIn (take 9 (drop at (now (s .entry)))) ⌝ }
+{
+    if s.len() < 9 {
+        return Number::NotOne;
+    }
+    if s.len() - 9 < at {
+        return Number::NotOne;
+    }
+    read_column(s, at)
+}

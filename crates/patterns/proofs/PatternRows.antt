@@ -1,0 +1,110 @@
+-- The constant tables: six places for each pattern, the counts of ways, and the first numbers. Assumes nothing.
+use mathlib.Core.Path.{_≡_, refl, sym, _∙_, ap}
+use mathlib.Core.Bool.{cond}
+use mathlib.Core.Logic.{_⊎_, inl, inr}
+use mathlib.Core.List.{List, [], _∷_, _++_}
+use Prim.Native.Nat.{ℕ, zero, suc, _+_, _-_, _*_, _<_, _≤_}
+use native.Mathlib.Nat.{add-zero, zero-add, add-suc, suc-add}
+use native.Mathlib.Omega.{arith}
+use borrow.Author.Tests.{le-leb}
+use lib.Dec.{leb}
+use lib.ListN.{length, getD, take, drop, length-drop, List·getD-eq-default}
+use lib.Seq.{take-at, drop-append-add, length-take-le, getD-take, getD-drop}
+use Rattle.patterns.specs.Outcome.{padded}
+use Rattle.patterns.specs.Pattern.{patterns, digitsOf}
+use Rattle.patterns.proofs.PatternRank.{count, ways, first}
+
+-- Rows of six places, one after the other.
+unfoldable pub flat : List (List ℕ) → List ℕ
+flat [] = []
+flat (p ∷ ps) = padded 6 p ++ flat ps
+
+unfoldable pub table : List ℕ
+table = flat patterns
+
+length-padded : (n : ℕ) (p : List ℕ) → length (padded n p) ≡ n
+length-padded zero p = refl
+length-padded (suc n) [] = ap suc (length-padded n [])
+length-padded (suc n) (d ∷ p) = ap suc (length-padded n p)
+
+flat-row : (ps : List (List ℕ)) (k : ℕ) → k < length ps → take 6 (drop (6 * k) (flat ps)) ≡ padded 6 (getD ps k [])
+unfolding flat
+flat-row [] k h = let z : ⊥ = omega arith in absurd z
+flat-row (p ∷ ps) zero h = take-at (padded 6 p) (flat ps) 6 (length-padded 6 p)
+flat-row (p ∷ ps) (suc k) h =
+    let s = length-padded 6 p in
+    let e : 6 * suc k ≡ length (padded 6 p) + 6 * k = omega arith in
+    ap (λ (j : ℕ). take 6 (drop j (padded 6 p ++ flat ps))) e
+    ∙ ap (take 6) (drop-append-add (padded 6 p) (flat ps) (6 * k))
+    ∙ flat-row ps k (omega arith)
+
+-- The row of a number holds its digits.
+pub table-row : (number : ℕ) → (number ≡ 0 → ⊥) → number ≤ 278 → take 6 (drop (6 * (number - 1)) table) ≡ digitsOf number
+unfolding table digitsOf
+table-row zero lo hi = absurd (lo refl)
+table-row (suc k) lo hi =
+    let e : 6 * (suc k - 1) ≡ 6 * k = omega arith in
+    ap (λ (j : ℕ). take 6 (drop j (flat patterns))) e ∙ flat-row patterns k (omega (arith, count))
+
+-- Where there is no pattern, there is no digit.
+pub digits-none : (number : ℕ) → (number ≡ 0) ⊎ (278 < number) → 0 ∷ 0 ∷ 0 ∷ 0 ∷ 0 ∷ 0 ∷ [] ≡ digitsOf number
+unfolding digitsOf
+digits-none zero h = refl
+digits-none (suc k) (inl e) = let z : ⊥ = omega arith in absurd z
+digits-none (suc k) (inr l) = ap (padded 6) (sym (List·getD-eq-default patterns [] {n = k} (omega (arith, count))))
+
+-- A list by its entries: f k, f (k + 1), and so on, n of them.
+unfoldable pub entries : {A : Type 0} → (ℕ → A) → ℕ → ℕ → List A
+entries f k zero = []
+entries f k (suc n) = f k ∷ entries f (suc k) n
+
+getD-entries : {A : Type 0} (f : ℕ → A) (k n j : ℕ) (e : A) → j < n → getD (entries f k n) j e ≡ f (k + j)
+unfolding entries
+getD-entries f k zero j e h = let z : ⊥ = omega arith in absurd z
+getD-entries f k (suc n) zero e h = rw add-zero
+getD-entries f k (suc n) (suc j) e h = getD-entries f (suc k) n j e (omega arith) ∙ ap f (suc-add k j ∙ sym (add-suc k j))
+
+entry : {A : Type 0} (f : ℕ → A) (n j : ℕ) (e : A) → j < n → getD (entries f 0 n) j e ≡ f j
+entry f n j e h = getD-entries f 0 n j e h ∙ ap f (zero-add j)
+
+-- The counts that come up: n fields and m different ones before them are at most five.
+unfoldable pub waysRow : ℕ → List ℕ
+waysRow n = entries (λ m. cond (leb (n + m) 5) (ways n m) 0) 0 6
+
+unfoldable pub waysTable : List (List ℕ)
+waysTable = entries waysRow 0 6
+
+pub ways-at : (n m : ℕ) → n + m ≤ 5 → getD (getD waysTable n []) m 0 ≡ ways n m
+unfolding waysTable waysRow
+ways-at n m h =
+    ap (λ (row : List ℕ). getD row m 0) (entry waysRow 6 n [] (omega arith))
+    ∙ entry (λ k. cond (leb (n + k) 5) (ways n k) 0) 6 m 0 (omega arith)
+    ∙ rw (le-leb (n + m) 5 h)
+
+unfoldable pub firstTable : List ℕ
+firstTable = entries first 0 7
+
+pub first-at : (n : ℕ) → n < 7 → getD firstTable n 0 ≡ first n
+unfolding firstTable
+first-at n h = entry first 7 n 0 h
+
+-- Six elements of a list, one by one.
+six : (l : List ℕ) → length l ≡ 6
+    → getD l 0 0 ∷ getD l 1 0 ∷ getD l 2 0 ∷ getD l 3 0 ∷ getD l 4 0 ∷ getD l 5 0 ∷ [] ≡ l
+six [] e = absurd (omega arith)
+six (a ∷ []) e = absurd (omega arith)
+six (a ∷ b ∷ []) e = absurd (omega arith)
+six (a ∷ b ∷ c ∷ []) e = absurd (omega arith)
+six (a ∷ b ∷ c ∷ d ∷ []) e = absurd (omega arith)
+six (a ∷ b ∷ c ∷ d ∷ f ∷ []) e = absurd (omega arith)
+six (a ∷ b ∷ c ∷ d ∷ f ∷ g ∷ []) e = refl
+six (a ∷ b ∷ c ∷ d ∷ f ∷ g ∷ h ∷ l) e = absurd (omega arith)
+
+pub six-at : (l : List ℕ) (at : ℕ) → at + 6 ≤ length l
+    → getD l at 0 ∷ getD l (at + 1) 0 ∷ getD l (at + 2) 0 ∷ getD l (at + 3) 0 ∷ getD l (at + 4) 0 ∷ getD l (at + 5) 0 ∷ []
+    ≡ take 6 (drop at l)
+six-at l at h =
+    let part = take 6 (drop at l) in
+    let n : length part ≡ 6 = length-take-le 6 (drop at l) (rw length-drop (omega arith)) in
+    let one : (k : ℕ) → k < 6 → getD part k 0 ≡ getD l (at + k) 0 = λ k b. getD-take 6 (drop at l) k 0 b ∙ getD-drop at l k 0 in
+    cc (six part n, one 0 (omega arith), one 1 (omega arith), one 2 (omega arith), one 3 (omega arith), one 4 (omega arith), one 5 (omega arith), add-zero at)

@@ -1,0 +1,104 @@
+-- What is true of patterns and their table, stated for a reader. Assumes nothing.
+use mathlib.Core.Path.{_≡_, refl, sym, _∙_, ap}
+use mathlib.Core.Logic.{_⊎_, inl, inr, _↔_}
+use mathlib.Core.List.{List, [], _∷_}
+use Prim.Native.Nat.{ℕ, suc, _<_, _≤_}
+use native.Mathlib.Decide.{ℕ-discrete}
+use native.Mathlib.Omega.{arith}
+use borrow.Author.Tests.{eq-eqb, ne-eqb, lt-ltb, le-ltb}
+use lib.Dec.{T}
+use lib.ListN.{length, getD}
+use Rattle.patterns.specs.Outcome.{good, refused, padded}
+use Rattle.patterns.specs.Pattern.{pattern, patterns, patternsTo, goingOn, led, lists-discrete, numberOf, patternOf, digitsOf}
+use Rattle.patterns.specs.PatternTable.{appears, earlier, Pattern}
+use Rattle.patterns.proofs.PatternLaws.{same-places, pattern-places}
+use Rattle.patterns.proofs.PatternRank.{count, right-at, placed, has-pattern, pattern-appears, appears-own}
+
+-- THE TABLE. The contract of `digits` says that the constant's row for the number k + 1 is entry k of `patterns`, in six places.
+pub rows : (k : ℕ) → digitsOf (suc k) ≡ padded 6 (getD patterns k [])
+unfolding digitsOf
+rows k = refl
+
+pub entries-278 : length patterns ≡ 278
+entries-278 = count
+
+-- Each entry stands before the next in document 01's order.
+pub entries-rise : (k : ℕ) → suc k < 278 → T (earlier (getD patterns k []) (getD patterns (suc k) []))
+entries-rise k h = right-at (suc k) h .order
+
+-- Each entry has one to six digits, by first appearance.
+pub entries-appear : (k : ℕ) → k < 278 → Pattern (getD patterns k [])
+entries-appear k h = right-at k h .digits
+
+-- Every list of one to six digits by first appearance is an entry.
+pub none-missing : (p : List ℕ) → Pattern p → (k : ℕ) × (k < 278) × (getD patterns k [] ≡ p)
+none-missing p h = let r = placed p h in (r .place, r .below, r .there)
+
+-- Every record of one to six fields has an entry for its pattern, whatever its fields are.
+pub record-has-entry : {A : Type 0} (d : Discrete A) (xs : List A) → 1 ≤ length xs → length xs ≤ 6 → Pattern (pattern d xs)
+record-has-entry d xs lo hi = has-pattern d xs lo hi
+
+-- Digits are by first appearance exactly where they are the pattern of a record: of themselves, for one.
+pub patterns-appear : {A : Type 0} (d : Discrete A) (xs : List A) → T (appears 0 (pattern d xs))
+patterns-appear d xs = pattern-appears d xs
+
+pub own-pattern : (p : List ℕ) → T (appears 0 p) → pattern ℕ-discrete p ≡ p
+own-pattern p t = appears-own p t
+
+-- THE NUMBERS. The entry at place k has the number k + 1.
+pub number-of-entry : (k : ℕ) → k < 278 → numberOf (getD patterns k []) ≡ suc k
+number-of-entry k h =
+    let r = right-at k h in
+    let p = placed (getD patterns k []) (r .digits) in
+    p .number ∙ sym (p .counted) ∙ r .number
+
+pub number-in-range : (p : List ℕ) → Pattern p → (1 ≤ numberOf p) × (numberOf p ≤ 278)
+number-in-range p h = let r = placed p h in omega (arith, r .number, r .below)
+
+-- Two patterns with one number are the same.
+pub number-one-to-one : (p q : List ℕ) → Pattern p → Pattern q → numberOf p ≡ numberOf q → p ≡ q
+number-one-to-one p q g h e =
+    let r = placed p g in
+    let s = placed q h in
+    let l : r .place ≡ s .place = omega (arith, r .number, s .number) in
+    sym (r .there) ∙ ap (λ (k : ℕ). getD patterns k []) l ∙ s .there
+
+-- The digits of a pattern's number are the pattern.
+pub digits-of-number : (p : List ℕ) → Pattern p → digitsOf (numberOf p) ≡ padded 6 p
+unfolding digitsOf
+digits-of-number p h = let r = placed p h in ap digitsOf (r .number) ∙ ap (padded 6) (r .there)
+
+-- RECORDS. A record of one to six numbers is numbered, any other is refused.
+pub numbered : (xs : List ℕ) → 1 ≤ length xs → length xs ≤ 6 → patternOf xs ≡ good (numberOf (pattern ℕ-discrete xs))
+numbered xs lo hi = rw (ne-eqb (length xs) 0 (λ e. omega arith), le-ltb 6 (length xs) hi)
+
+pub not-numbered : (xs : List ℕ) → (length xs ≡ 0) ⊎ (6 < length xs) → patternOf xs ≡ refused 10 0
+not-numbered xs (inl e) = rw (eq-eqb (length xs) 0 e)
+not-numbered xs (inr l) = rw (ne-eqb (length xs) 0 (λ e. omega arith), lt-ltb 6 (length xs) l)
+
+-- Two records have the same pattern exactly when the same places are equal.
+pub same-pattern-same-places : {A B : Type 0} (dA : Discrete A) (dB : Discrete B) (xs : List A) (ys : List B) (a : A) (b : B) → length xs ≡ length ys
+    → (pattern dA xs ≡ pattern dB ys)
+    ↔ ((i j : ℕ) → i < length xs → j < length xs → (getD xs i a ≡ getD xs j a) ↔ (getD ys i b ≡ getD ys j b))
+same-pattern-same-places dA dB xs ys a b e = (pattern-places dA dB xs ys a b e, same-places dA dB xs ys a b e)
+
+-- EXAMPLES of document 01.
+pub pattern-7479 : pattern ℕ-discrete (7 ∷ 4 ∷ 7 ∷ 9 ∷ []) ≡ 1 ∷ 2 ∷ 1 ∷ 3 ∷ []
+unfolding ℕ-discrete
+pattern-7479 = refl
+
+pub named-numbers : (numberOf (1 ∷ []) ≡ 1)
+    × (numberOf (1 ∷ 1 ∷ []) ≡ 2)
+    × (numberOf (1 ∷ 2 ∷ []) ≡ 3)
+    × (numberOf (1 ∷ 2 ∷ 1 ∷ 3 ∷ []) ≡ 16)
+    × (numberOf (1 ∷ 2 ∷ 3 ∷ 4 ∷ 5 ∷ 6 ∷ []) ≡ 278)
+unfolding numberOf patterns patternsTo goingOn led lists-discrete ℕ-discrete
+named-numbers = (refl, refl, refl, refl, refl)
+
+-- The starred cases.
+pub zero-zero : patternOf (0 ∷ 0 ∷ []) ≡ good 2
+unfolding numberOf patterns patternsTo goingOn led lists-discrete ℕ-discrete
+zero-zero = refl
+
+pub no-number : patternOf [] ≡ refused 10 0
+no-number = refl

@@ -1,0 +1,4 @@
+-- The definitions that the contracts of this crate cite, and those that the crates above share.
+pub mod Outcome
+pub mod Pattern
+pub mod PatternTable

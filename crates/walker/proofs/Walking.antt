@@ -1,0 +1,78 @@
+-- The laws of a text's lines: how a search along the text finds a line's end, and that the part from `at` to that end is the line. Assumes nothing.
+use mathlib.Core.Path.{_≡_, refl}
+use Prim.Native.Nat.{ℕ, zero, suc, _+_, _-_, _<_, _≤_}
+use native.Mathlib.Nat.{add-zero}
+use native.Mathlib.Numerals.{add-one}
+use native.Mathlib.Omega.{arith}
+use mathlib.Core.Bool.{Bool, true, false}
+use mathlib.Core.List.{List, [], _∷_}
+use lib.Dec.{eqb}
+use lib.ListN.{length, getD, take, drop, length-drop, drop-of-length-le}
+use lib.Seq.{drop-cons}
+use borrow.Author.Tests.{eq-eqb, ne-eqb}
+use Rattle.walker.specs.Walk.{after, lineLength, lineEnd, lineAt, partStart}
+
+-- The end of the line at `at` as seen from i, where the line at i has k bytes.
+abbrev pub reach : ℕ → ℕ → ℕ → ℕ
+reach at i zero = at
+reach at i (suc k) = i + suc k
+
+pub reach-start : (at k : ℕ) → at + k ≡ reach at at k
+reach-start at zero = add-zero at
+reach-start at (suc k) = refl
+
+reach-longer : (at i k : ℕ) → reach at i (after false k) ≡ reach at (suc i) k
+reach-longer at i zero = refl
+reach-longer at i (suc k) = omega arith
+
+-- A byte that is not 10 is passed.
+pub reach-on : (s : List ℕ) (at i : ℕ) → i < length s → (getD s i 0 ≡ 10 → ⊥) → reach at i (lineLength (drop i s)) ≡ reach at (i + 1) (lineLength (drop (i + 1) s))
+reach-on s at i l ne = rw (add-one, drop-cons s i 0, ne-eqb (getD s i 0) 10 ne) (reach-longer at i (lineLength (drop (suc i) s)))
+
+-- The byte 10 ends the line.
+pub reach-found : (s : List ℕ) (at i : ℕ) → i < length s → getD s i 0 ≡ 10 → reach at i (lineLength (drop i s)) ≡ i + 1
+reach-found s at i l is10 = rw (drop-cons s i 0, eq-eqb (getD s i 0) 10 is10)
+
+-- At or past the end there is no line.
+pub none-past-end : (s : List ℕ) (at : ℕ) → length s ≤ at → lineLength (drop at s) ≡ 0
+none-past-end s at l = rw (drop-of-length-le s l)
+
+-- Where no byte 10 follows there is no line.
+pub none-without-10 : (s : List ℕ) → ((i : ℕ) → i < length s → getD s i 0 ≡ 10 → ⊥) → lineLength s ≡ 0
+none-without-10 [] never = refl
+none-without-10 (b ∷ s) never = rw (ne-eqb b 10 (never 0 (omega arith)), none-without-10 s (λ i l. never (suc i) (omega arith)))
+
+-- Where there is no line, its end is `at` and it is empty.
+pub none-stays : (s : List ℕ) (at : ℕ) → lineLength (drop at s) ≡ 0 → (lineEnd s at ≡ at) × (lineAt s at ≡ [])
+none-stays s at none = (omega arith, rw none)
+
+pub reach-past : (s : List ℕ) (at i : ℕ) → length s ≤ i → reach at i (lineLength (drop i s)) ≡ at
+reach-past s at i l = rw (none-past-end s i l)
+
+after-le : (t : Bool) (k n : ℕ) → k ≤ n → after t k ≤ suc n
+after-le true k n l = omega arith
+after-le false zero n l = omega arith
+after-le false (suc k) n l = omega arith
+
+pub lineLength-le : (s : List ℕ) → lineLength s ≤ length s
+lineLength-le [] = omega arith
+lineLength-le (b ∷ s) = after-le (eqb b 10) (lineLength s) (length s) (lineLength-le s)
+
+module _ (s : List ℕ) (at e : ℕ) (ends : e ≡ lineEnd s at) where
+  -- Where there is a line, it ends within the text.
+  pub line-within : at < e → e ≤ length s
+  line-within l = omega (arith, lineLength-le (drop at s), length-drop at s)
+
+  pub part-is-line : take (e - at) (drop at s) ≡ lineAt s at
+  part-is-line = let n : e - at ≡ lineLength (drop at s) = omega arith in rw n
+
+  pub part-starts : at < e → at ≡ partStart at (lineLength (drop at s))
+  part-starts l = some (lineLength (drop at s)) (omega arith)
+    where
+      some : (k : ℕ) → 0 < k → at ≡ partStart at k
+      some zero h = omega arith
+      some (suc k) h = refl
+
+  -- Where the end is no further than `at`, there is none.
+  pub line-none : e ≤ at → lineLength (drop at s) ≡ 0
+  line-none l = omega arith
