@@ -51,6 +51,7 @@ CASES = [
     ("document 002, example 4.3", line("K", 1, 4) + line("K", 2, 2) + line("B", 1, 1, 2, 1, 3) + line("H", 2, 1, 4) + line("B", 2, 1, 2) + line("H", 1, 1, 1, 2, 2) + line("R", 1, 5, 6, 5, 7), verdict((1, 1, 3, 2, 100, 1, 1, 0), (1, 1, 1, 2, 1))),
     ("P(1) -> Q(1,2), Q(1,2) -> P(2)", P1 + line("K", 2, 2) + line("B", 1, 1) + line("H", 2, 1, 2) + line("B", 2, 1, 2) + line("H", 1, 2) + line("R", 1, 5), verdict((2, 0, 2, 2, 100, 1, 0, 2), (1, 1, 1, 2, 1), (2, 1, 2, 1, 0))),
     ("P(1) -> Q(2), Q(1) -> T(1,2)", P1 + line("K", 2, 1) + line("K", 3, 2) + line("B", 1, 1) + line("H", 2, 2) + line("B", 2, 1) + line("H", 3, 1, 2) + line("R", 1, 5), verdict((1, 2, 3, 2, 100, 1, 2, 0), (1, 1, 0, 1, 1), (2, 1, 1, 2, 1))),
+    ("S(1) -> Q(1), P(1) -> S(2)", P1 + line("K", 2, 1) + line("K", 3, 1) + line("B", 3, 1) + line("H", 2, 1) + line("B", 1, 1) + line("H", 3, 2) + line("R", 1, 1) + line("R", 2, 3), verdict((1, 1, 3, 2, 100, 1, 1, 0), (2, 1, 0, 1, 1))),
     ("one rule of eight fired", ONE_OF_EIGHT, verdict((1, 0, 1, 1, 13, 0, 0, 0))),
     ("512 rows of different shapes", rows_of_shapes(512), verdict((1, 0, 512, 0, 0, 0, 0, 0))),
     ("513 rows of different shapes", rows_of_shapes(513), line("N", 11, 0)),

@@ -13,7 +13,7 @@ use Rattle.chase.specs.Value.{Value, table, Value-discrete, generation}
 use Rattle.chase.specs.Making.{Record, made, freshOf, orElse, valueOf, carriedValues}
 use Rattle.chase.specs.Run.{Firing, fire, run, Fits, AllFit}
 use Rattle.chase.specs.Shape.{Shape, shapeOf}
-use Rattle.chase.specs.Steps.{Step, after, Each, lastOf, firedOn, firingsOf, Goes, Reaching, Carried, Fresh, FreshAlone, Moves, Follow, lastTo, valueAt, placesOf}
+use Rattle.chase.specs.Steps.{Step, after, Each, lastOf, firedOn, firingsOf, Goes, Reaching, Carried, Fresh, FreshAlone, Moves, Follow, lastTo, lastFresh, valueAt, placesOf}
 use Rattle.chase.specs.Certificate.{asRecord, shapeAfter, EachShape, lastShape, shapesOn, placesOn, freshSteps}
 use Rattle.chase.proofs.MakingLaws.{OptR, valueOf-rel, valueOf-in-marks, agree-has-value, no-mark-no-value, in-carriedValues, carriedValues-in}
 use Rattle.chase.proofs.Generations.{generation-below}
@@ -279,6 +279,10 @@ module _ (rules : List Rule) where
 pub lastTo-append : (to : ℕ) (ss ts : List Step) → lastTo to (ss ++ ts) ≡ lastTo (lastTo to ss) ts
 lastTo-append to [] ts = refl
 lastTo-append to (st ∷ ss) ts = lastTo-append (st .to) ss ts
+
+pub lastFresh-append : (fresh : ℕ) (ss ts : List Step) → lastFresh fresh (ss ++ ts) ≡ lastFresh (lastFresh fresh ss) ts
+lastFresh-append fresh [] ts = refl
+lastFresh-append fresh (st ∷ ss) ts = lastFresh-append (st .fresh) ss ts
 
 pub follow-append : (to : ℕ) (ss ts : List Step) → Follow to ss → Follow (lastTo to ss) ts → Follow to (ss ++ ts)
 follow-append to [] ts f g = g

@@ -13,12 +13,12 @@ use Rattle.chase.specs.Making.{Record}
 use Rattle.chase.specs.Run.{rowsOf}
 use Rattle.chase.specs.Shape.{Shape, shapeOf, Reached, Fired}
 use Rattle.chase.specs.Counting.{Count}
-use Rattle.chase.specs.Steps.{Step, Fresh, FreshAlone, Moves}
+use Rattle.chase.specs.Steps.{Step, Fresh, FreshAlone, Moves, lastFresh}
 use Rattle.chase.specs.Certificate.{asRecord, shapeAfter, EachShape, lastShape, largest, deepestOf, ClosedList, WayOn, LoopOn, LineOn, freshSteps}
-use Rattle.chase.proofs.StepLaws.{lastShape-append, freshSteps-append}
+use Rattle.chase.proofs.StepLaws.{lastShape-append, lastFresh-append, freshSteps-append}
 use Rattle.judging.specs.Codes.{shapeAt, codeOf}
 use Rattle.judging.specs.Found.{shapeNo, Via, viaRow, viaRule, Kept, Whole, onesIn}
-use Rattle.judging.specs.Nodes.{at, back, Stable, Turn, Line}
+use Rattle.judging.specs.Nodes.{at, back, weight, Stable, Turn, Line}
 use Rattle.judging.specs.Links.{Link, Closed}
 use Rattle.judging.specs.Written.{lineTo, wayBack, wayTo, Falls, WayLength, StaysBelow, Deepest, InTurn, TurnLength, InLine, LineLength}
 use Rattle.judging.specs.Facts.{Facts}
@@ -26,7 +26,7 @@ use Rattle.judging.proofs.Counts.{place-one, shapes-counted, fired-coun
 use Rattle.judging.proofs.Ways.{WayFrom, way-on}
 use Rattle.judging.proofs.ListOf.{listOf, closed-list, number-listed, listed-number}
 use Rattle.judging.proofs.LinkSteps.{link-fresh, link-ends}
-use Rattle.judging.proofs.Walks.{back-add, stepAt, walk, line-walk, walk-length, walk-follow, walk-fresh, meets, node-below, start-node, start-below, step-to, walk-moves, loop-on, walk-short, rises-along}
+use Rattle.judging.proofs.Walks.{back-add, stepAt, walk, line-walk, walk-length, walk-follow, walk-lastFresh, walk-fresh, meets, node-below, start-node, start-below, step-to, walk-moves, loop-on, walk-short, rises-along, made-along}
 
 -- The shapes that were found, with their index, as spreading needs them. `own`: a number is that of its shape.
 pub kept-closed : (rules : List Rule) (rows : List Record) (codes index parents makers headers : List ℕ) (count : ℕ)
@@ -95,17 +95,36 @@ module _ (lines : List SheetLine) (codes index parents makers headers fired : Li
     line-to : (x : ℕ) → 0 < G x → (k : ℕ) × (k < 7 * count) × Line E G F K k x (G x)
     line-to x l = f .spreads .settled settled .1 x (raised-below x l)
 
+    -- The first link back to a raised node.
+    raised-link : (x : ℕ) → 0 < G x → E (F x) x (K x)
+    raised-link x l = go (line-to x l .0) (line-to x l .2)
+      where
+        go : (k : ℕ) → Line E G F K k x (G x) → E (F x) x (K x)
+        go zero s = absurd (omega (arith, s .starts))
+        go (suc k) s = s .links 0 (omega arith)
+
     -- A raised node is a field of its shape.
     raised-listed : (x : ℕ) → 0 < G x → G x ≤ deepestOf (listOf codes generations count)
-    raised-listed x l = go (line-to x l .0) (line-to x l .2)
-      where
-        go : (k : ℕ) → Line E G F K k x (G x) → G x ≤ deepestOf (listOf codes generations count)
-        go zero s = absurd (omega (arith, s .starts))
-        go (suc k) s = number-listed rules codes count (f .fit) (f .kept .fits) generations (F x) x (K x) (s .links 0 (omega arith))
+    raised-listed x l = number-listed rules codes count (f .fit) (f .kept .fits) generations (F x) x (K x) (raised-link x l)
 
-    pub deepest-is : (x : ℕ) → Deepest generations (7 * count) x → deepestOf (listOf codes generations count) ≡ G x
+    -- A deepest node is raised by a fresh link,
+    deepest-made : (x : ℕ) → Deepest generations link (7 * count) x → 0 < G x → weight (K x) ≡ 1
+    deepest-made x d l = d .made (omega (arith, link-ends rules codes count (f .fit) (f .kept .fits) (F x) x (K x) (raised-link x l)))
+
+    -- and no node is of a later generation: its number is made at a node where a fresh link leads.
+    deepest-most : (x : ℕ) → Deepest generations link (7 * count) x → (v : ℕ) → G v ≤ G x
+    deepest-most x d v = go (decLt 0 (G v))
+      where
+        go : Dec (0 < G v) → G v ≤ G x
+        go (yes l) =
+            let s = line-to v l in
+            let m = made-along rules codes count (f .fit) (f .kept .fits) F K G stable (s .0) v (s .2 .links) (omega (arith, s .2 .renews)) in
+            omega (arith, s .2 .renews, m .3, d .largest (m .0) (m .1) (m .2))
+        go (no h) = omega arith
+
+    pub deepest-is : (x : ℕ) → Deepest generations link (7 * count) x → deepestOf (listOf codes generations count) ≡ G x
     deepest-is x d =
-        omega (arith, listed-number codes count (f .kept .fits) generations (G x) (λ v l. d .largest v l), least)
+        omega (arith, listed-number codes count (f .kept .fits) generations (G x) (λ v l. deepest-most x d v), least)
       where
         least : G x ≤ deepestOf (listOf codes generations count)
         least = go (decLt 0 (G x))
@@ -163,9 +182,9 @@ module _ (lines : List SheetLine) (codes index parents makers headers fired : Li
       pub size : length (wayTo parents makers headers w (start / 7) ++ lineTo F K k x) ≡ w + k
       pub short : w + k ≤ 3583
 
-    line-trail : (x k w : ℕ) → Line E G F K (suc k) x (G x) → (way : WayFrom rules rows codes index parents makers headers count (f .kept) w (back F (suc k) x / 7))
+    line-trail : (x k w : ℕ) → weight (K x) ≡ 1 → Line E G F K (suc k) x (G x) → (way : WayFrom rules rows codes index parents makers headers count (f .kept) w (back F (suc k) x / 7))
         → LineOn rules (shapeOf (way .row)) (wayTo parents makers headers w (back F (suc k) x / 7) ++ lineTo F K (suc k) x) (G x)
-    line-trail x k w s way =
+    line-trail x k w made s way =
         let ss = wayTo parents makers headers w (back F (suc k) x / 7) in
         let st = stepAt F K k x in
         let u = back F (suc k) x in
@@ -189,6 +208,9 @@ module _ (lines : List SheetLine) (codes index parents makers headers fired : Li
               (walk-moves rules codes count (f .fit) (f .kept .fits) F K k x (λ j l. links j (omega arith))
               (link-ends rules codes count (f .fit) (f .kept .fits) u v (K v) (links k (omega arith))));
           follow = walk-follow F K k x;
+          makes =
+              lastFresh-append 0 ss (lineTo F K (suc k) x) ∙ ap (lastFresh (lastFresh 0 ss)) (line-walk F K (suc k) x)
+              ∙ walk-lastFresh F K (lastFresh 0 ss) k x ∙ made;
           enough =
               omega (
                 arith,
@@ -199,16 +221,17 @@ module _ (lines : List SheetLine) (codes index parents makers headers fired : Li
               );
         }
 
-    pub line-found : (x k w : ℕ) → 0 < G x → LineLength generations from (7 * count) x k → WayLength parents (back F k x / 7) w → LineFound x k w (back F k x)
-    line-found x zero w raised size way-is = absurd (omega (arith, line-some x 0 raised size))
-    line-found x (suc k) w raised size way-is =
+    pub line-found : (x k w : ℕ) → 0 < G x → Deepest generations link (7 * count) x → LineLength generations from (7 * count) x k → WayLength parents (back F k x / 7) w
+        → LineFound x k w (back F k x)
+    line-found x zero w raised deep size way-is = absurd (omega (arith, line-some x 0 raised size))
+    line-found x (suc k) w raised deep size way-is =
         let start : ℕ = back F (suc k) x / 7 in
         let begins : start < count = line-begins x (suc k) raised size in
         let way = way-to start w begins way-is in
         record {
           row = way .row;
           named = way .named;
-          line = line-trail x k w (line-is x (suc k) raised size) way;
+          line = line-trail x k w (deepest-made x deep raised) (line-is x (suc k) raised size) way;
           size =
               length-append (wayTo parents makers headers w start) (lineTo F K (suc k) x)
               ∙ omega (arith, way .size, ap (λ (l : List Step). length l) (line-walk F K (suc k) x), walk-length F K (suc k) x);

@@ -42,7 +42,7 @@ table-count table zero = refl
 table-count table (suc n) = omega (arith, table-count (drop 64 table) n)
 
 -- A deepest node of so many shapes is within the grid.
-pub deepest-within : {generations : List (List ℕ)} {count x : ℕ} → count ≤ 512 → Deepest generations (7 * count) x → x < 3584
+pub deepest-within : {generations link : List (List ℕ)} {count x : ℕ} → count ≤ 512 → Deepest generations link (7 * count) x → x < 3584
 deepest-within {count = count} {x = x} few deep = go (decLt 0 (7 * count))
   where
     go : Dec (0 < 7 * count) → x < 3584

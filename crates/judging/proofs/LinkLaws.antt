@@ -2,8 +2,10 @@
 use mathlib.Core.Path.{_≡_, refl, sym, subst, ap, _∙_}
 use mathlib.Core.Bool.{Bool, true, false}
 use mathlib.Core.List.{List}
+use mathlib.Core.Logic.{by-cases}
 use mathlib.Core.Option.{some}
 use Prim.Native.Nat.{ℕ, suc, _+_, _-_, _*_, _/_, _%_, _≤_, _<_}
+use native.Mathlib.Decide.{decLt}
 use native.Mathlib.Omega.{arith}
 use lib.ListN.{length, getD}
 use Rattle.patterns.specs.Pattern.{digitsOf}
@@ -11,10 +13,11 @@ use Rattle.chase.specs.Rules.{Head, Rule, nth}
 use Rattle.chase.specs.Simplification.{Applies}
 use Rattle.judging.specs.Table.{rowBytes, ruleIn, firstPlace, BytesFit, TableFits}
 use Rattle.judging.specs.Codes.{shapeAt, codeOf, shapeFrom, ShapeFits, Decides, FiresOn, MadeOf}
-use Rattle.judging.specs.Passes.{LineBytes, Live, Done, Just, Upto, FreshE, FieldE, carriedE, freshE, HeadE, MadeE, RuleE, Onward, placeOf}
+use Rattle.judging.specs.Firing.{NextFire}
+use Rattle.judging.specs.Passes.{LineBytes, Done, Just, Upto, FreshE, FieldE, carriedE, freshE, HeadE, MadeE, RuleE, Onward, placeOf}
 use Rattle.judging.proofs.CodeLaws.{digits-at}
 use Rattle.judging.proofs.RuleLaws.{headAt, head-nth, head-below, head-width, head-mark, head-fits, mark-range, firstPlace-le, row-size}
-use Rattle.judging.proofs.PassLaws.{skip, alike}
+use Rattle.judging.proofs.PassLaws.{alike}
 
 -- H line h of a rule's bytes.
 module _ (bytes : List ℕ) (size : length bytes ≡ 64) (f : BytesFit bytes) (h : ℕ) (there : h < getD bytes 28 0) where
@@ -94,11 +97,21 @@ module _ (rule : Rule) (code : ℕ) (fits : ShapeFits (shapeAt code)) {digits : 
   pub applies-not : answer ≡ false → Applies rule (shapeAt code) → ⊥
   applies-not e = subst (λ (b : Bool). Decides (Applies rule (shapeAt code)) b) e decided
 
+-- The rules from rule r to rule q do not fire, and have no links.
 pub unfired :
-    {n : ℕ} {table index : List ℕ} {code s r : ℕ} {g from link : List (List ℕ)} {waiting : List ℕ} {last : ℕ}
-    → (Applies (ruleIn (rowBytes table r)) (shapeAt code) → ⊥) → Live n g from link waiting last
-    → Done n (RuleE table index code s r) g from link waiting last g from link waiting last
-unfired d l = skip l (λ u v link e. d (e .applies))
+    {n : ℕ} {table index : List ℕ} {rules code s r q : ℕ} {digits : List ℕ} {g₀ f₀ k₀ g f k : List (List ℕ)} {w₀ w : List ℕ} {r₀ last : ℕ}
+    → ShapeFits (shapeAt code) → digits ≡ digitsOf (code % 278 + 1) → NextFire table rules r (code / 278 + 1) digits q
+    → Done n (Upto r (RuleE table index code s)) g₀ f₀ k₀ w₀ r₀ g f k w last → Done n (Upto q (RuleE table index code s)) g₀ f₀ k₀ w₀ r₀ g f k w last
+unfired {table = table} {code = code} {r = r} fits are f d =
+    alike
+    (λ u v link e. record { number = e .number; below = (let l = e .below in let b = f .begun in omega arith); here = e .here })
+    (λ u v link e.
+    by-cases (decLt (e .number) r)
+    (λ (l : e .number < r). record { number = e .number; below = l; here = e .here })
+    (λ (z : e .number < r → ⊥).
+    absurd
+    (applies-not (ruleIn (rowBytes table (e .number))) code fits are (f .still (e .number) (omega (arith, z)) (e .below)) refl (e .here .applies))))
+    d
 
 pub fired :
     {n : ℕ} {table index : List ℕ} {code s r : ℕ} {g₀ f₀ k₀ g f k : List (List ℕ)} {w₀ w : List ℕ} {r₀ q : ℕ}

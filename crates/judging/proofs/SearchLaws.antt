@@ -1,10 +1,10 @@
 -- The search over shapes, rules and H lines: where it stands, and how each event keeps it. Assumes nothing.
 use mathlib.Core.Path.{_≡_, refl, sym, subst, subst₂, ap, _∙_}
-use mathlib.Core.Bool.{Bool, true, false}
+use mathlib.Core.Bool.{true, false}
 use mathlib.Core.List.{List, [], _∷_}
 use mathlib.Core.Logic.{by-cases}
 use mathlib.Core.Option.{some, Option·none-ne-some}
-use Prim.Native.Nat.{ℕ, zero, suc, _+_, _*_, _/_, _%_, _<_, _≤_}
+use Prim.Native.Nat.{ℕ, zero, suc, _+_, _-_, _*_, _/_, _%_, _<_, _≤_}
 use native.Mathlib.Decide.{ℕ-discrete, decLt}
 use native.Mathlib.Numerals.{add-one}
 use native.Mathlib.Omega.{arith}
@@ -18,7 +18,8 @@ use Rattle.chase.specs.Making.{Record}
 use Rattle.chase.specs.Shape.{Shape, shapeOf}
 use Rattle.chase.specs.Counting.{MoreThan}
 use Rattle.chase.specs.Simplification.{Applies, Derived}
-use Rattle.judging.specs.Codes.{shapeAt, ShapeFits, shapeFrom, DigitsFit, Decides, FiresOn, MadeOf}
+use Rattle.judging.specs.Codes.{shapeAt, ShapeFits, shapeFrom, DigitsFit, FiresOn, MadeOf}
+use Rattle.judging.specs.Firing.{NextFire}
 use Rattle.judging.specs.Table.{headsIn, ruleIn, rowBytes, tableRules, TableFits}
 use Rattle.judging.specs.Found.{shapeNo, Has, viaRule, Kept, Whole, FiredMarks}
 use Rattle.judging.specs.Rows.{Clear, RowsFound}
@@ -362,20 +363,12 @@ trying shape digits fit e =
     let are = e ∙ digits-at shape in
     record { kind-is = kind-of shape; digits-are = are; digits-fit = subst DigitsFit (sym are) (digits-fit (shapeAt shape) fit); shape-fits = fit }
 
-decides-yes : (P : Type 0) (b : Bool) → b ≡ true → Decides P b → P
-decides-yes P true e d = d
-decides-yes P false e d = let z : _≡_ {A = ℕ} 0 1 = cc in let y : ⊥ = omega arith in absurd y
-
-decides-no : (P : Type 0) (b : Bool) → b ≡ false → Decides P b → P → ⊥
-decides-no P false e d p = d p
-decides-no P true e d p = let z : _≡_ {A = ℕ} 0 1 = cc in omega arith
-
 module _ {shape kind : ℕ} {digits : List ℕ} (on : Trying shape kind digits) (w : Rule) where
-  pub fires-yes : (b : Bool) → FiresOn w kind digits b → b ≡ true → Applies w (shapeAt shape)
-  fires-yes b f e = decides-yes (Applies w (shapeAt shape)) b e (f .each (shapeAt shape) (on .shape-fits) (on .kind-is) (on .digits-are))
+  pub fires-yes : FiresOn w kind digits true → Applies w (shapeAt shape)
+  fires-yes f = f .each (shapeAt shape) (on .shape-fits) (on .kind-is) (on .digits-are)
 
-  pub fires-no : (b : Bool) → FiresOn w kind digits b → b ≡ false → Applies w (shapeAt shape) → ⊥
-  fires-no b f e = decides-no (Applies w (shapeAt shape)) b e (f .each (shapeAt shape) (on .shape-fits) (on .kind-is) (on .digits-are))
+  pub fires-no : FiresOn w kind digits false → Applies w (shapeAt shape) → ⊥
+  fires-no f = f .each (shapeAt shape) (on .shape-fits) (on .kind-is) (on .digits-are)
 
   pub made-is : (h code : ℕ) (g : Head) → MadeOf w h digits code → Applies w (shapeAt shape) → nth (w .heads) (suc h) ≡ some g
       → shapeAt code ≡ shapeFrom w (shapeAt shape) g
@@ -431,10 +424,10 @@ along P a b c d e f a' b' c' d' e' f' n n' ea eb ec ed ee ef en x = rw (ea, eb, 
 module _ {rules : List Rule} {rows : List Record} {store digits : List ℕ} {m shape kind s r : ℕ} {codes index parents makers headers fired : List ℕ} {n : ℕ}
     (x : Ruling rules rows store digits m shape kind s r codes index parents makers headers fired n) where
   -- The rule fires.
-  pub ruling-fires : (b : Bool) (heads : ℕ) → FiresOn (ruleIn (rowBytes store r)) kind digits b → b ≡ true → r < m → heads ≡ getD (rowBytes store r) 28 0
+  pub ruling-fires : (heads : ℕ) → FiresOn (ruleIn (rowBytes store r)) kind digits true → r < m → heads ≡ getD (rowBytes store r) 28 0
       → Heading rules rows store digits m shape kind s r heads 0 codes index parents makers headers (set fired r 1) n
-  ruling-fires b heads f e low are =
-      let a = fires-yes (x .on) (ruleIn (rowBytes store r)) b f e in
+  ruling-fires heads f low are =
+      let a = fires-yes (x .on) (ruleIn (rowBytes store r)) f in
       record {
         h-low = omega arith;
         r-low = low;
@@ -450,9 +443,9 @@ module _ {rules : List Rule} {rows : List Record} {store digits : List ℕ} {m s
       }
 
   -- It does not.
-  pub ruling-still : (b : Bool) → FiresOn (ruleIn (rowBytes store r)) kind digits b → b ≡ false → r < m
+  pub ruling-still : FiresOn (ruleIn (rowBytes store r)) kind digits false → r < m
       → Ruling rules rows store digits m shape kind s (r + 1) codes index parents makers headers fired n
-  ruling-still b f e low =
+  ruling-still f low =
       record {
         r-low = omega arith;
         s-low = x .s-low;
@@ -462,7 +455,7 @@ module _ {rules : List Rule} {rows : List Record} {store digits : List ℕ} {m s
         doing =
             doing-still (few-ruled (x .ruled)) (x .doing) s r (ruleIn (rowBytes store r)) refl refl (named-ruled (x .ruled) r low)
             (λ (a : Applies (ruleIn (rowBytes store r)) (shapeNo codes s)).
-            fires-no (x .on) (ruleIn (rowBytes store r)) b f e (subst (λ (v : ℕ). Applies (ruleIn (rowBytes store r)) (shapeAt v)) (sym (x .here)) a));
+            fires-no (x .on) (ruleIn (rowBytes store r)) f (subst (λ (v : ℕ). Applies (ruleIn (rowBytes store r)) (shapeAt v)) (sym (x .here)) a));
       }
 
   -- All rules were tried.
@@ -473,11 +466,29 @@ module _ {rules : List Rule} {rows : List Record} {store digits : List ℕ} {m s
       let low = x .r-low in
       doing-shape (few-ruled (x .ruled)) (x .doing) s r refl refl (omega arith) (omega arith)
 
-  pub ruling-same : (codes' index' parents' makers' headers' fired' : List ℕ) (n' : ℕ) → codes' ≡ codes → index' ≡ index → parents' ≡ parents
-      → makers' ≡ makers → headers' ≡ headers → fired' ≡ fired → n' ≡ n
-      → Ruling rules rows store digits m shape kind s r codes' index' parents' makers' headers' fired' n'
-  ruling-same codes' index' parents' makers' headers' fired' n' a b c d e f g =
-      along (Ruling rules rows store digits m shape kind s r) codes index parents makers headers fired codes' index' parents' makers' headers' fired' n n' a b c d e f g x
+-- The rules from rule r on, so many, do not fire.
+ruling-skip : {rules : List Rule} {rows : List Record} {store digits : List ℕ} {m shape kind s r : ℕ} {codes index parents makers headers fired : List ℕ} {n : ℕ} (k : ℕ)
+    → Ruling rules rows store digits m shape kind s r codes index parents makers headers fired n → r + k ≤ m
+    → ((i : ℕ) → r ≤ i → i < r + k → FiresOn (ruleIn (rowBytes store i)) kind digits false)
+    → Ruling rules rows store digits m shape kind s (r + k) codes index parents makers headers fired n
+ruling-skip {rules} {rows} {store} {digits} {m} {shape} {kind} {s} {r} {codes} {index} {parents} {makers} {headers} {fired} {n} zero x low still =
+    let e : r ≡ r + 0 = omega arith in
+    subst (λ (v : ℕ). Ruling rules rows store digits m shape kind s v codes index parents makers headers fired n) e x
+ruling-skip {rules} {rows} {store} {digits} {m} {shape} {kind} {s} {r} {codes} {index} {parents} {makers} {headers} {fired} {n} (suc k) x low still =
+    let e : r + 1 + k ≡ r + suc k = omega arith in
+    subst (λ (v : ℕ). Ruling rules rows store digits m shape kind s v codes index parents makers headers fired n) e
+    (ruling-skip k (ruling-still x (still r (omega arith) (omega arith)) (omega arith)) (omega arith) (λ i a b. still i (omega arith) (omega arith)))
+
+-- The next rule that fires is found.
+pub ruling-next : {rules : List Rule} {rows : List Record} {store digits : List ℕ} {m shape kind s r q : ℕ} {codes index parents makers headers fired : List ℕ} {n : ℕ}
+    → Ruling rules rows store digits m shape kind s r codes index parents makers headers fired n → NextFire store m r kind digits q
+    → Ruling rules rows store digits m shape kind s q codes index parents makers headers fired n
+ruling-next {rules} {rows} {store} {digits} {m} {shape} {kind} {s} {r} {q} {codes} {index} {parents} {makers} {headers} {fired} {n} x f =
+    let a = f .begun in
+    let b = f .within in
+    let e : r + (q - r) ≡ q = omega arith in
+    subst (λ (v : ℕ). Ruling rules rows store digits m shape kind s v codes index parents makers headers fired n) e
+    (ruling-skip (q - r) x (omega arith) (λ i l h. f .still i l (omega arith)))
 
 module _ {rules : List Rule} {rows : List Record} {store digits : List ℕ} {m shape kind s r heads h : ℕ} {codes index parents makers headers fired : List ℕ} {n : ℕ}
     (x : Heading rules rows store digits m shape kind s r heads h codes index parents makers headers fired n) where

@@ -25,7 +25,7 @@ use Rattle.sheet.specs.declared.WriteAnswer.the-variants.{Bytes, Refused}
 use Rattle.chase.specs.Steps.{Step, stepNumbers}
 use Rattle.judging.specs.Table.{FirstWrong}
 use Rattle.judging.specs.Found.{onesIn}
-use Rattle.judging.specs.Nodes.{at, back}
+use Rattle.judging.specs.Nodes.{at, back, weight}
 use Rattle.judging.specs.Written.{linkStep, lineTo, reachStep, madeOf, wayBack, wayTo, Falls, WayLength, putSteps, oneStep, StaysBelow, Deepest, InTurn, TurnLength, InLine, LineLength}
 use Rattle.judging.specs.Trails.{WroteEndless, WroteSettled}
 
@@ -384,25 +384,28 @@ module _ {from : List (List ℕ)} {k x y left : ℕ} (s : Starting from k x y le
 
 -- The largest generation.
 
-module _ {generations : List (List ℕ)} {v best : ℕ} (d : Deepest generations v best) where
+module _ {generations link : List (List ℕ)} {v best : ℕ} (d : Deepest generations link v best) where
   pub deepest-node : best ≤ v
   deepest-node =
       by-cases (ℕ-discrete v 0) (λ (e : v ≡ 0). let z = d .none e in omega arith) (λ (e : v ≡ 0 → ⊥). let l = d .below (omega arith) in omega arith)
 
-  pub deepest-raised : at generations best < at generations v → Deepest generations (v + 1) v
-  deepest-raised h =
+  pub deepest-raised : weight (at link v) ≡ 1 → at generations best < at generations v → Deepest generations link (v + 1) v
+  deepest-raised fresh h =
       record {
         below = λ p. omega arith;
         none = λ e. absurd (omega arith);
-        largest = each-more (λ u. at generations u ≤ at generations v) v (λ u l. let m = d .largest u l in omega arith) (omega arith);
+        made = λ p. fresh;
+        largest =
+            each-more (λ u. weight (at link u) ≡ 1 → at generations u ≤ at generations v) v (λ u l w. let m = d .largest u l w in omega arith) (λ w. omega arith);
       }
 
-  pub deepest-same : at generations v ≤ at generations best → Deepest generations (v + 1) best
+  pub deepest-same : (weight (at link v) ≡ 1 → at generations v ≤ at generations best) → Deepest generations link (v + 1) best
   deepest-same h =
       record {
         below = λ p. omega (arith, deepest-node);
         none = λ e. absurd (omega arith);
-        largest = each-more (λ u. at generations u ≤ at generations best) v (d .largest) h;
+        made = d .made;
+        largest = each-more (λ u. weight (at link u) ≡ 1 → at generations u ≤ at generations best) v (d .largest) h;
       }
 
 -- Marks counted.

@@ -107,7 +107,7 @@ module _ (lines : List SheetLine) (codes index parents makers headers fired : Li
       }
 
   -- It settles with deepest generation 0.
-  pub settles-at-once : turning ≡ 0 → (x : ℕ) → Deepest generations (7 * count) x → at generations x ≡ 0
+  pub settles-at-once : turning ≡ 0 → (x : ℕ) → Deepest generations link (7 * count) x → at generations x ≡ 0
       → v .verdict ≡ 1 → v .deepest ≡ 0 → v .row ≡ 0 → v .trail ≡ 0 → v .loop ≡ 0 → now ≡ before
       → JudgeMeets 512 numbers before (judged v) now
   settles-at-once settled x deep none verdict deepest row trail loop held = (
@@ -127,7 +127,7 @@ module _ (lines : List SheetLine) (codes index parents makers headers fired : Li
         })),
   )
 
-  settles-from : turning ≡ 0 → (x k w : ℕ) → Deepest generations (7 * count) x → 0 < at generations x
+  settles-from : turning ≡ 0 → (x k w : ℕ) → Deepest generations link (7 * count) x → 0 < at generations x
       → LineLength generations from (7 * count) x k → WayLength parents (back (at from) k x / 7) w
       → v .verdict ≡ 1 → v .deepest ≡ at generations x → v .row ≡ getD makers (wayBack parents w (back (at from) k x / 7)) 0
       → v .trail ≡ w + k → v .loop ≡ 0
@@ -136,7 +136,7 @@ module _ (lines : List SheetLine) (codes index parents makers headers fired : Li
   settles-from settled x k w deep raised size way verdict deepest row trail loop held =
       let start : ℕ = back (at from) k x / 7 in
       let steps : List Step = wayTo parents makers headers w start ++ lineTo (at from) (at link) k x in
-      let l = line-found lines codes index parents makers headers fired count generations from link turning f settled x k w raised size way in
+      let l = line-found lines codes index parents makers headers fired count generations from link turning f settled x k w raised deep size way in
       let c = settled-certificate rules rows list (at generations x) (getD makers (wayBack parents w start) 0) (l .row) steps (rows-of-tables lines)
       (list-closed lines codes index parents makers headers fired count generations from link turning f settled)
       (deepest-is lines codes index parents makers headers fired count generations from link turning f settled x deep) (l .named) (l .line) in (
@@ -159,7 +159,7 @@ module _ (lines : List SheetLine) (codes index parents makers headers fired : Li
       )
 
   -- It settles with a deepest generation above 0, which a line to node x makes.
-  pub settles : turning ≡ 0 → (x k w start : ℕ) → Deepest generations (7 * count) x → 0 < at generations x
+  pub settles : turning ≡ 0 → (x k w start : ℕ) → Deepest generations link (7 * count) x → 0 < at generations x
       → LineLength generations from (7 * count) x k → start ≡ back (at from) k x → WayLength parents (start / 7) w
       → v .verdict ≡ 1 → v .deepest ≡ at generations x → v .row ≡ getD makers (wayBack parents w (start / 7)) 0
       → v .trail ≡ w + k → v .loop ≡ 0

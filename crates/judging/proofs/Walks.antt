@@ -10,12 +10,12 @@ use Rattle.chase.specs.Lists.{In, All}
 use Rattle.chase.specs.Rules.{Rule}
 use Rattle.chase.specs.Shape.{Shape}
 use Rattle.chase.specs.Counting.{NoTwo}
-use Rattle.chase.specs.Steps.{Step, Moves, Follow, lastTo, Place}
+use Rattle.chase.specs.Steps.{Step, Moves, Follow, lastTo, lastFresh, Place}
 use Rattle.chase.specs.Certificate.{shapeAfter, EachShape, lastShape, placesOn, LoopOn, freshSteps}
 use Rattle.judging.specs.Table.{RuleFits}
 use Rattle.judging.specs.Codes.{ShapeFits}
 use Rattle.judging.specs.Found.{shapeNo}
-use Rattle.judging.specs.Nodes.{back, freshBack, Stable, Turn}
+use Rattle.judging.specs.Nodes.{back, weight, freshBack, Stable, Turn}
 use Rattle.judging.specs.Links.{Link}
 use Rattle.judging.specs.Written.{linkStep, lineTo}
 use Rattle.judging.proofs.Places.{few-below}
@@ -58,6 +58,15 @@ module _ (F K : ℕ → ℕ) where
   pub walk-lastTo : (k x : ℕ) → lastTo (back F k x % 7) (walk k x) ≡ x % 7
   walk-lastTo zero x = refl
   walk-lastTo (suc k) x = walk-lastTo k x
+
+  pub walk-lastFresh : (fresh k x : ℕ) → lastFresh fresh (walk (suc k) x) ≡ weight (K x)
+  walk-lastFresh fresh zero x = refl
+  walk-lastFresh fresh (suc k) x = walk-lastFresh (stepAt (suc k) x .fresh) k x
+
+  -- The fresh links back from x: its own, and those back from where it begins.
+  freshBack-first : (k x : ℕ) → freshBack F K (suc k) x ≡ weight (K x) + freshBack F K k (F x)
+  freshBack-first zero x = omega arith
+  freshBack-first (suc k) x = omega (arith, freshBack-first k x, ap (λ (u : ℕ). weight (K u)) (back-after k x))
 
   pub walk-fresh : (rules : List Rule) (k x : ℕ) → freshSteps rules (walk k x) ≡ freshBack F K k x
   walk-fresh rules zero x = refl
@@ -215,3 +224,19 @@ module _ (rules : List Rule) (codes : List ℕ) (count : ℕ) (fit : All RuleFit
         rises-along G stable k x (fewer k x links),
         stable (back F (suc k) x) (back F k x) (K (back F k x)) (links k (omega arith)),
       )
+
+  -- So the number at the end of a line is made at a node of it, by a fresh link.
+  pub made-along : (G : ℕ → ℕ) → Stable (Link rules codes count) G → (k x : ℕ) → AreLinks k x → 0 < freshBack F K k x
+      → (y : ℕ) × (y < 7 * count) × (weight (K y) ≡ 1) × (freshBack F K k x ≤ G y)
+  made-along G stable zero x links some = absurd (omega arith)
+  made-along G stable (suc k) x links some =
+      go (ℕ-discrete (weight (K x)) 1) (made-along G stable k (F x) (λ j l. rw (back-after F K j x) (links (suc j) (omega arith))))
+    where
+      go : Dec (weight (K x) ≡ 1)
+          → (0 < freshBack F K k (F x) → (y : ℕ) × (y < 7 * count) × (weight (K y) ≡ 1) × (freshBack F K k (F x) ≤ G y))
+          → (y : ℕ) × (y < 7 * count) × (weight (K y) ≡ 1) × (freshBack F K (suc k) x ≤ G y)
+      go (yes e) ih = (x, node-below (suc k) x links 0 (omega arith), e, omega (arith, rises-along G stable (suc k) x links))
+      go (no h) ih =
+          let first : freshBack F K (suc k) x ≡ weight (K x) + freshBack F K k (F x) = freshBack-first F K k x in
+          let s = ih (omega arith) in
+          (s .0, s .1, s .2, omega (arith, s .3))

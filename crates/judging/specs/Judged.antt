@@ -49,13 +49,13 @@ pub record Lines (generations from : List (List ℕ)) (count : ℕ) : Type 0 whe
   pub below : (x : ℕ) → 0 < at generations x → x < 7 * count
   pub lines : (x : ℕ) → 0 < at generations x → InLine generations from (7 * count) x
 
--- The answer where nothing turns: nothing is written where no node was raised, and otherwise a line to a deepest node.
+-- The answer where nothing turns: nothing is written where no node was raised, and otherwise a line to a node where a number of the deepest generation is made.
 pub record SaysSettled (parents makers headers : List ℕ) (generations from link : List (List ℕ)) (count fired part : ℕ) (before : List ℕ) (answer : JudgeAnswer) (after : List ℕ)
     : Type 0 where
   pub figures : Figures
   pub says : answer ≡ Settles figures
   pub node : ℕ
-  pub deep : Deepest generations (7 * count) node
+  pub deep : Deepest generations link (7 * count) node
   pub deepest : figures .deepest ≡ at generations node
   pub shapes : figures .shapes ≡ count
   pub fired-is : figures .fired ≡ fired

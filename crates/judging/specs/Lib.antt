@@ -2,6 +2,7 @@
 pub mod Answer
 pub mod Table
 pub mod Codes
+pub mod Firing
 pub mod Bytes
 pub mod Rows
 pub mod Found

@@ -5,7 +5,7 @@ use Prim.Native.Nat.{ℕ, zero, suc, _+_, _-_, _*_, _/_, _%_, _≤_, _<_}
 use lib.ListN.{length, getD}
 use lib.Seq.{paste}
 use Rattle.chase.specs.Steps.{Step, stepNumbers}
-use Rattle.judging.specs.Nodes.{at, back}
+use Rattle.judging.specs.Nodes.{at, back, weight}
 
 -- The step of a link from node u to node v.
 abbrev pub linkStep : ℕ → ℕ → ℕ → Step
@@ -58,11 +58,12 @@ oneStep rule head from to fresh = record { rule = rule; head = head; from = from
 abbrev pub StaysBelow : List (List ℕ) → ℕ → ℕ → Type 0
 StaysBelow from k x = (j : ℕ) → j ≤ k → back (at from) j x < 3584
 
--- A node of the largest generation among the first n; node 0 where there is none.
-pub record Deepest (generations : List (List ℕ)) (n x : ℕ) : Type 0 where
+-- A node of the largest generation among those of the first n whose link is fresh; node 0, which is no field, where there is none.
+pub record Deepest (generations link : List (List ℕ)) (n x : ℕ) : Type 0 where
   pub below : 0 < n → x < n
   pub none : n ≡ 0 → x ≡ 0
-  pub largest : (v : ℕ) → v < n → at generations v ≤ at generations x
+  pub made : 0 < x → weight (at link x) ≡ 1
+  pub largest : (v : ℕ) → v < n → weight (at link v) ≡ 1 → at generations v ≤ at generations x
 
 -- Some links lead back from y to itself, all within the first n nodes.
 pub record InTurn (from : List (List ℕ)) (n y : ℕ) : Type 0 where

@@ -192,7 +192,7 @@ fn endless_answer(
     })
 }
 
-// The answer for a sheet that settles. The steps to a number of the deepest generation are written where that is above 0.
+// The answer for a sheet that settles. Where the deepest generation is above 0, the steps that make a number of it are written.
 fn settled_answer(
     steps: &mut [u16],
     parents: &[u16; 512],
@@ -210,7 +210,7 @@ fn settled_answer(
     ensures { λ r. ⌜ SaysSettled (now (parents .entry)) (now (makers .entry)) (now (headers .entry)) (now (generations .entry)) (now (from .entry)) (now (link .entry)) count fired part
         (now (steps .entry)) r (now (steps .exit)) ⌝ }
 {
-    let x = trail::deepest(7 * count, generations);
+    let x = trail::deepest(7 * count, generations, link);
     let deepest = spread::number(generations, x) as usize;
     if deepest == 0 {
         return JudgeAnswer::Settles(Figures {
@@ -310,15 +310,24 @@ fn judge_rules(lines: &[u32], steps: &mut [u16], table: &[u8; 16384], rules: usi
     requires { ⌜ SheetHeld (now lines) × (20480 ≤ length (now steps)) × TableFits (now table) rules × (tableRules (now table) rules ≡ rulesIn (now lines)) ⌝ }
     ensures { λ r. ⌜ JudgeMeets shapeLimit (now (lines .entry)) (now (steps .entry)) (judgeSays r) (now (steps .exit)) ⌝ }
 {
-    let found = search::search(lines, table, rules);
+    let mut shapes = [0u32; 512];
+    let mut index = search::no_index();
+    let mut parents = [0u16; 512];
+    let mut makers = [0u16; 512];
+    let mut headers = [0u16; 512];
+    let found = search::search(
+        lines,
+        table,
+        rules,
+        &mut shapes,
+        &mut index,
+        &mut parents,
+        &mut makers,
+        &mut headers,
+    );
     if found.full {
         return JudgeAnswer::Refused(JudgeRefusal::ShapesOver);
     }
-    let shapes = found.shapes;
-    let index = found.index;
-    let parents = found.parents;
-    let makers = found.makers;
-    let headers = found.headers;
     let marks = found.fired;
     judge_found(
         steps,

@@ -8,31 +8,23 @@ ghost use Rattle.judging.specs.Table.{SheetHeld, rulesIn, rowsIn, tableR
 ghost use Rattle.judging.specs.Codes.{CodeIs};
 ghost use Rattle.judging.specs.Found.{Searched};
 ghost use Rattle.judging.specs.Rows.{Clear, rowNumbers, RowAt, RowsFound, RowsTried};
-use crate::shape::fires;
 use crate::shape::made;
+use crate::shape::next_fire;
 use crate::shape::rule_byte;
 use crate::shape::shape_code;
 
-// The shapes that were found, in the order of discovery, with how each was reached.
+// What the search found beside the shapes.
 pub(crate) struct Found {
-    pub shapes: [u32; 512],
-    // One more than the place of a shape among those found; 0 where it was not found.
-    pub index: [u16; 17792],
-    // One more than the place of the shape that it was made of; 0 where a row has it.
-    pub parents: [u16; 512],
-    // The number of the rule that made it, or of the row that has it.
-    pub makers: [u16; 512],
-    // The number of the H line that made it; 0 where a row has it.
-    pub headers: [u16; 512],
     // 1 for each rule that fires on a shape that was found.
     pub fired: [u8; 256],
+    // How many shapes were found.
     pub count: usize,
     // There is a 513th shape.
     pub full: bool,
 }
 
 // 17,792 zeros.
-fn no_index() -> [u16; 17792]
+pub(crate) fn no_index() -> [u16; 17792]
     ensures { λ r. ⌜ Clear r 17792 ⌝ }
 {
     [0u16; 17792]
@@ -153,86 +145,67 @@ fn find_rows(
     count
 }
 
-// Finds the shapes that the rules reach from the rows, up to 512, and which rules fire.
-pub(crate) fn search(lines: &[u32], table: &[u8; 16384], rules: usize) -> Found
-    requires { ⌜ SheetHeld (now lines) × TableFits (now table) rules × (tableRules (now table) rules ≡ rulesIn (now lines)) ⌝ }
-    ensures { λ r. ⌜ Searched (rulesIn (now (lines .entry))) (rowsIn (now (lines .entry))) (r .shapes) (r .index) (r .parents) (r .makers) (r .headers) (r .fired) (r .count) (r .full) ⌝ }
+// Finds the shapes that the rules reach from the rows, up to 512, in the order of discovery, and which rules fire.
+pub(crate) fn search(
+    lines: &[u32],
+    table: &[u8; 16384],
+    rules: usize,
+    shapes: &mut [u32; 512],
+    // One more than the place of a shape among those found; 0 where it was not found.
+    index: &mut [u16; 17792],
+    // One more than the place of the shape that it was made of; 0 where a row has it.
+    parents: &mut [u16; 512],
+    // The number of the rule that made it, or of the row that has it.
+    makers: &mut [u16; 512],
+    // The number of the H line that made it; 0 where a row has it.
+    headers: &mut [u16; 512],
+) -> Found
+    requires { ⌜ SheetHeld (now lines) × TableFits (now table) rules × (tableRules (now table) rules ≡ rulesIn (now lines)) × (length (now shapes) ≡ 512) × Clear (now index) 17792 × (length (now parents) ≡ 512) × (length (now makers) ≡ 512) × (length (now headers) ≡ 512) ⌝ }
+    ensures { λ r. ⌜ Searched (rulesIn (now (lines .entry))) (rowsIn (now (lines .entry))) (now (shapes .exit)) (now (index .exit)) (now (parents .exit)) (now (makers .exit)) (now (headers .exit)) (r .fired) (r .count) (r .full) ⌝ }
 {
-    let mut shapes = [0u32; 512];
-    let mut index = no_index();
-    let mut parents = [0u16; 512];
-    let mut makers = [0u16; 512];
-    let mut headers = [0u16; 512];
     let mut fired = [0u8; 256];
-    let mut count = find_rows(
-        lines,
-        &mut shapes,
-        &mut index,
-        &mut parents,
-        &mut makers,
-        &mut headers,
-    );
+    let mut count = find_rows(lines, shapes, index, parents, makers, headers);
     let mut full = false;
     if 512 < count {
         full = true;
-        return Found {
-            shapes,
-            index,
-            parents,
-            makers,
-            headers,
-            fired,
-            count,
-            full,
-        };
+        return Found { fired, count, full };
     }
     let mut s: usize = 0;
     'search: while s < count {
         let shape = shapes[s] as usize;
         let kind = shape / 278 + 1;
         let digits = sheet::digits(shape % 278 + 1);
-        let mut r: usize = 0;
+        let mut r = next_fire(table, rules, 0, kind, digits);
         while r < rules {
-            if fires(table, rules, r, kind, digits) {
-                fired[r] = 1;
-                let heads = rule_byte(table, r, 28);
-                let mut h: usize = 0;
-                while h < heads {
-                    let code = made(table, rules, r, h, digits);
-                    if index[code] == 0 {
-                        if count == 512 {
-                            full = true;
-                            break 'search;
-                        }
-                        push(
-                            &mut shapes,
-                            &mut index,
-                            &mut parents,
-                            &mut makers,
-                            &mut headers,
-                            count,
-                            code,
-                            s + 1,
-                            r + 1,
-                            h + 1,
-                        );
-                        count += 1;
+            fired[r] = 1;
+            let heads = rule_byte(table, r, 28);
+            let mut h: usize = 0;
+            while h < heads {
+                let code = made(table, rules, r, h, digits);
+                if index[code] == 0 {
+                    if count == 512 {
+                        full = true;
+                        break 'search;
                     }
-                    h += 1;
+                    push(
+                        shapes,
+                        index,
+                        parents,
+                        makers,
+                        headers,
+                        count,
+                        code,
+                        s + 1,
+                        r + 1,
+                        h + 1,
+                    );
+                    count += 1;
                 }
+                h += 1;
             }
-            r += 1;
+            r = next_fire(table, rules, r + 1, kind, digits);
         }
         s += 1;
     }
-    Found {
-        shapes,
-        index,
-        parents,
-        makers,
-        headers,
-        fired,
-        count,
-        full,
-    }
+    Found { fired, count, full }
 }

@@ -6,6 +6,7 @@ ghost use lib.ListN.{length, getD};
 ghost use Rattle.patterns.specs.Pattern.{pattern};
 ghost use Rattle.judging.specs.Table.{KindFits, TableFits, rowBytes, ruleIn};
 ghost use Rattle.judging.specs.Codes.{CodeIs, FiresOn, MadeOf, DigitsFit, madeNumber};
+ghost use Rattle.judging.specs.Firing.{NextFire};
 use sheet::PatternAnswer;
 
 // The number of the shape with a kind and the pattern of the numbers.
@@ -34,13 +35,7 @@ pub(crate) fn rule_byte(table: &[u8; 16384], r: usize, i: usize) -> usize
 }
 
 // Whether rule `r` fires on a record of this kind and pattern: it has as many fields as the rule has marks, and each has the digit of its mark's first place.
-pub(crate) fn fires(
-    table: &[u8; 16384],
-    rules: usize,
-    r: usize,
-    kind: usize,
-    digits: [u8; 6],
-) -> bool
+fn fires(table: &[u8; 16384], rules: usize, r: usize, kind: usize, digits: [u8; 6]) -> bool
     requires { ⌜ TableFits (now table) rules × (r < rules) × DigitsFit digits ⌝ }
     ensures { λ b. ⌜ FiresOn (ruleIn (rowBytes (now (table .entry)) r)) kind digits b ⌝ }
 {
@@ -66,6 +61,29 @@ pub(crate) fn fires(
         i += 1;
     }
     true
+}
+
+// The first rule from rule `r` on that fires on a record of this kind and pattern; `rules` where none does.
+pub(crate) fn next_fire(
+    table: &[u8; 16384],
+    rules: usize,
+    r: usize,
+    kind: usize,
+    digits: [u8; 6],
+) -> usize
+    requires { ⌜ TableFits (now table) rules × (r ≤ rules) × DigitsFit digits ⌝ }
+    ensures { λ q. ⌜ NextFire (now (table .entry)) rules r kind digits q ⌝ }
+{
+    let mut q = r;
+    while q < rules {
+        if rule_byte(table, q, 0) == kind {
+            if fires(table, rules, q, kind, digits) {
+                return q;
+            }
+        }
+        q += 1;
+    }
+    q
 }
 
 // The number in a field of a made record: the digit that its mark has, or a number above all digits for a fresh mark.

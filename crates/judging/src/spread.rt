@@ -11,8 +11,8 @@ ghost use Rattle.judging.specs.Codes.{shapeAt, ShapeFits};
 ghost use Rattle.judging.specs.Nodes.{at, put as putAt, Grid, Zeros};
 ghost use Rattle.judging.specs.Links.{Closed, Spreads};
 ghost use Rattle.judging.specs.Passes.{Live, Done, Swept, Rests, Just, Upto, FreshE, LineBytes, HeadE, ShapeE, EachE, Onward, Inside, Walked, Last};
-use crate::shape::fires;
 use crate::shape::made;
+use crate::shape::next_fire;
 use crate::shape::rule_byte;
 
 pub(crate) fn number(g: &[[u16; 7]; 512], v: usize) -> u16
@@ -181,30 +181,28 @@ fn follow_shape(
     let kind = shape / 278 + 1;
     let digits = sheet::digits(shape % 278 + 1);
     let mut last = before;
-    let mut r: usize = 0;
+    let mut r = next_fire(table, rules, 0, kind, digits);
     while r < rules {
-        if fires(table, rules, r, kind, digits) {
-            let heads = rule_byte(table, r, 28);
-            let mut h: usize = 0;
-            while h < heads {
-                let t = index[made(table, rules, r, h, digits)] as usize - 1;
-                last = follow_head(
-                    table,
-                    n,
-                    s,
-                    r,
-                    h,
-                    t,
-                    generations,
-                    from,
-                    links,
-                    waiting,
-                    last,
-                );
-                h += 1;
-            }
+        let heads = rule_byte(table, r, 28);
+        let mut h: usize = 0;
+        while h < heads {
+            let t = index[made(table, rules, r, h, digits)] as usize - 1;
+            last = follow_head(
+                table,
+                n,
+                s,
+                r,
+                h,
+                t,
+                generations,
+                from,
+                links,
+                waiting,
+                last,
+            );
+            h += 1;
         }
-        r += 1;
+        r = next_fire(table, rules, r + 1, kind, digits);
     }
     last
 }

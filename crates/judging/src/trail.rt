@@ -108,16 +108,18 @@ pub(crate) fn line_start(k: usize, from: &[[u16; 7]; 512], x: usize) -> usize
     y
 }
 
-// The first node of the largest generation among n nodes.
-pub(crate) fn deepest(n: usize, generations: &[[u16; 7]; 512]) -> usize
-    requires { ⌜ Grid (now generations) × (n ≤ 3584) ⌝ }
-    ensures { λ r. ⌜ Deepest (now (generations .entry)) n r ⌝ }
+// The first node of the largest generation among those of n nodes where a number is made: a fresh link leads there. Node 0 is no field, and stands for none.
+pub(crate) fn deepest(n: usize, generations: &[[u16; 7]; 512], link: &[[u16; 7]; 512]) -> usize
+    requires { ⌜ Grid (now generations) × Grid (now link) × (n ≤ 3584) ⌝ }
+    ensures { λ r. ⌜ Deepest (now (generations .entry)) (now (link .entry)) n r ⌝ }
 {
     let mut best: usize = 0;
     let mut v: usize = 0;
     while v < n {
-        if number(generations, best) < number(generations, v) {
-            best = v;
+        if number(link, v) % 2 == 1 {
+            if number(generations, best) < number(generations, v) {
+                best = v;
+            }
         }
         v += 1;
     }

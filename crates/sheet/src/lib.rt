@@ -1,4 +1,4 @@
-// Sheets of follow-up rules: text to lines, lines to text, and the pattern of a record.
+// Sheets of follow-up rules: text to lines and lines to text. Passes on the column of a number and the pattern of a record.
 mod lent;
 mod line;
 mod order;

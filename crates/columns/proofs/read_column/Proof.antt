@@ -36,7 +36,7 @@ returns-3 : tie.Need-returns-3 Inv-loop μ-loop
 returns-3 c = let turn = c .before .before .before in sym (below-digits _ _ _ _ (turn .before .loop .inv) (turn .loop-test .taken) (c .before .if2 .left) (c .if4 .taken))
 
 returns-4 : tie.Need-returns-4 Inv-loop μ-loop
-returns-4 c = let turn = c .before .before .before .before in sym (above-digits _ _ _ _ (turn .before .loop .inv) (turn .loop-test .taken) (c .if5 .taken))
+returns-4 c = let turn = c .before .before .before .before in sym (above-digits _ _ _ _ (turn .before .loop .inv) (turn .loop-test .taken) (omega (arith, c .if5 .taken)))
 
 mul-n : tie.Need-mul-n Inv-loop μ-loop
 mul-n c = omega (arith, read-fits _ _ _ _ (c .before .before .before .before .before .loop .inv))
@@ -48,7 +48,8 @@ add-n : tie.Need-add-n Inv-loop μ-loop
 add-n c = omega (arith, read-fits _ _ _ _ (c .before .before .before .before .before .before .loop .inv))
 
 returns-5 : tie.Need-returns-5 Inv-loop μ-loop
-returns-5 c = let turn = c .before .before .before .before .before .before in sym (leading-zero _ _ _ _ _ (turn .before .loop .inv) (turn .loop-test .taken) (c .before .before .before .if4 .left) (c .before .wide .ensures) (c .if6 .taken))
+returns-5 c = let turn = c .before .before .before .before .before .before in sym (leading-zero _ _ _ _ _ (turn .before .loop .inv) (turn .loop-test .taken) (c .before .before .before .if4 .left) (c .before .wide .ensures)
+    (omega (arith, read-fits _ _ _ _ (turn .before .loop .inv), c .before .before .if5 .left, c .before .wide .ensures, c .if6 .taken)))
 
 add-i : tie.Need-add-i Inv-loop μ-loop
 add-i c = search needs

@@ -22,67 +22,52 @@ few c = let m = rw (c .f .given .1) at (c .before .before .before .judge .ensure
 few2 : (c : tie.After-f2) → c .f2 .given .0 .0 .trail + c .f2 .given .0 .0 .turns ≤ 4096
 few2 c = let m = rw (c .f2 .given .1) at (c .before .before .before .judge .ensures) in m .1 .room
 
--- src/main.rt:116:21
 room-for-steps-requires : tie.Need-room-for-steps-requires
 room-for-steps-requires c κs = search needs
 
--- src/main.rt:117:33
 slice-aggregate-judge : tie.Need-slice-aggregate-judge
 slice-aggregate-judge c = search needs
 
--- src/main.rt:117:11
 judge-requires : tie.Need-judge-requires
 judge-requires c κs = search needs
 
--- src/main.rt:118:30
 enum-known-f : tie.Need-enum-known-f
 enum-known-f c = search needs
 
--- src/main.rt:118:56
 slice-aggregate-print-verdict : tie.Need-slice-aggregate-print-verdict
 slice-aggregate-print-verdict c = search needs
 
--- src/main.rt:118:36
 print-verdict-requires : tie.Need-print-verdict-requires
 print-verdict-requires c κs =
     let j = c .before .before .before .before .before in
     omega (arith, few (c .before .before), j .judge .kept .1 .0, j .before .before .room-for-steps .ensures)
 
--- src/main.rt:119:30
 enum-known-f-2 : tie.Need-enum-known-f-2
 enum-known-f-2 c = search needs
 
--- src/main.rt:119:56
 slice-aggregate-print-verdict-2 : tie.Need-slice-aggregate-print-verdict-2
 slice-aggregate-print-verdict-2 c = search needs
 
--- src/main.rt:119:36
 print-verdict-requires-2 : tie.Need-print-verdict-requires-2
 print-verdict-requires-2 c κs =
     let j = c .before .before .before .before .before in
     omega (arith, few2 (c .before .before), j .judge .kept .1 .0, j .before .before .room-for-steps .ensures)
 
--- src/main.rt:120:30
 enum-known-refusal : tie.Need-enum-known-refusal
 enum-known-refusal c = search needs
 
--- src/main.rt:121:17
 refusal-numbers-requires : tie.Need-refusal-numbers-requires
 refusal-numbers-requires c κs = search needs
 
--- src/main.rt:122:13
 print-refusal-requires : tie.Need-print-refusal-requires
 print-refusal-requires c κs = search needs
 
--- src/main.rt:115:1
 returns : tie.Need-returns
 returns c = search needs
 
--- src/main.rt:115:1
 returns-2 : tie.Need-returns-2
 returns-2 c = search needs
 
--- src/main.rt:115:1
 returns-3 : tie.Need-returns-3
 returns-3 c = search needs
 

@@ -19,71 +19,54 @@ Inv-loop letter count numbers line₀ i₀ line i = (i ≤ count) × (length lin
 abbrev μ-loop : tie.MeasureT-loop
 μ-loop letter count numbers line₀ i₀ line i = count - i
 
--- src/main.rt:51:5
 loop-holds : tie.Need-loop-holds Inv-loop μ-loop
 loop-holds c = search needs
 
--- src/main.rt:52:31
 mul-put-column : tie.Need-mul-put-column Inv-loop μ-loop
 mul-put-column c = search needs
 
--- src/main.rt:52:31
 add-put-column : tie.Need-add-put-column Inv-loop μ-loop
 add-put-column c = search needs
 
--- src/main.rt:52:42
 mul-put-column-2 : tie.Need-mul-put-column-2 Inv-loop μ-loop
 mul-put-column-2 c = search needs
 
--- src/main.rt:52:42
 array-read-put-column : tie.Need-array-read-put-column Inv-loop μ-loop
 array-read-put-column c = search needs
 
--- src/main.rt:52:9
 put-column-requires : tie.Need-put-column-requires Inv-loop μ-loop
 put-column-requires c κs = search needs
 
--- src/main.rt:53:9
 add-i : tie.Need-add-i Inv-loop μ-loop
 add-i c = search needs
 
--- src/main.rt:51:5
 loop-less : tie.Need-loop-less Inv-loop μ-loop
 loop-less c = search needs
 
--- src/main.rt:51:5
 loop-again : tie.Need-loop-again Inv-loop μ-loop
 loop-again c = search needs
 
--- src/main.rt:55:16
 mul-size : tie.Need-mul-size Inv-loop μ-loop
 mul-size c = search needs
 
--- src/main.rt:55:16
 add-size : tie.Need-add-size Inv-loop μ-loop
 add-size c = search needs
 
--- src/main.rt:56:10
 sub-line : tie.Need-sub-line Inv-loop μ-loop
 sub-line c = search needs
 
--- src/main.rt:56:5
 array-write-line : tie.Need-array-write-line Inv-loop μ-loop
 array-write-line c = search needs
 
--- src/main.rt:57:34
 array-share-prefix-line : tie.Need-array-share-prefix-line Inv-loop μ-loop
 array-share-prefix-line c = simp length-set (omega arith)
 
--- src/main.rt:57:34
 slice-aggregate-write-all : tie.Need-slice-aggregate-write-all Inv-loop μ-loop
 slice-aggregate-write-all c = sym (length-take-le _ _ (simp length-set (let h = c .before .before .loop .inv .1 in omega arith)))
 
--- src/main.rt:57:5
 write-all-requires : tie.Need-write-all-requires Inv-loop μ-loop
 write-all-requires c κs = search needs
 
--- src/main.rt:46:1
 returns : tie.Need-returns Inv-loop μ-loop
 returns c = search needs
 

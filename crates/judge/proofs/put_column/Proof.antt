@@ -17,43 +17,33 @@ Inv-loop line₀ at n bytes i₀ line i = (i ≤ 9) × (length line ≡ 74) × (
 abbrev μ-loop : tie.MeasureT-loop
 μ-loop line₀ at n bytes i₀ line i = 9 - i
 
--- src/main.rt:37:31
 cast-column : tie.Need-cast-column Inv-loop μ-loop
 cast-column c = search needs
 
--- src/main.rt:37:17
 column-requires : tie.Need-column-requires Inv-loop μ-loop
 column-requires c κs = search needs
 
--- src/main.rt:39:5
 loop-holds : tie.Need-loop-holds Inv-loop μ-loop
 loop-holds c = search needs
 
--- src/main.rt:40:24
 array-read-line : tie.Need-array-read-line Inv-loop μ-loop
 array-read-line c = search needs
 
--- src/main.rt:40:14
 add-line : tie.Need-add-line Inv-loop μ-loop
 add-line c = search needs
 
--- src/main.rt:40:9
 element-write-line : tie.Need-element-write-line Inv-loop μ-loop
 element-write-line c = search needs
 
--- src/main.rt:41:9
 add-i : tie.Need-add-i Inv-loop μ-loop
 add-i c = search needs
 
--- src/main.rt:39:5
 loop-less : tie.Need-loop-less Inv-loop μ-loop
 loop-less c = search needs
 
--- src/main.rt:39:5
 loop-again : tie.Need-loop-again Inv-loop μ-loop
 loop-again c = search needs
 
--- src/main.rt:33:1
 returns : tie.Need-returns Inv-loop μ-loop
 returns c = search needs
 

@@ -25,74 +25,57 @@ read c =
     let h = read-counts _ _ _ _ (rw (c .count .given .1) at (r .read .ensures)) in
     omega (arith, h, r .before .before .before .room-for-lines .ensures)
 
--- src/main.rt:53:20
 room-for-input-requires : tie.Need-room-for-input-requires
 room-for-input-requires c κs = search needs
 
--- src/main.rt:54:33
 slice-aggregate-read-full : tie.Need-slice-aggregate-read-full
 slice-aggregate-read-full c = search needs
 
--- src/main.rt:54:9
 read-full-requires : tie.Need-read-full-requires
 read-full-requires c κs = search needs
 
--- src/main.rt:55:21
 room-for-lines-requires : tie.Need-room-for-lines-requires
 room-for-lines-requires c κs = search needs
 
--- src/main.rt:56:23
 array-share-prefix-text : tie.Need-array-share-prefix-text
 array-share-prefix-text c = search needs
 
--- src/main.rt:56:23
 slice-aggregate-read : tie.Need-slice-aggregate-read
 slice-aggregate-read c = search needs
 
--- src/main.rt:56:38
 slice-aggregate-read-2 : tie.Need-slice-aggregate-read-2
 slice-aggregate-read-2 c = search needs
 
--- src/main.rt:56:11
 read-requires : tie.Need-read-requires
 read-requires c κs = search needs
 
--- src/main.rt:57:27
 enum-known-count : tie.Need-enum-known-count
 enum-known-count c = search needs
 
--- src/main.rt:58:24
 mul-used : tie.Need-mul-used
 mul-used c = let h = read (c .before) in search needs
 
--- src/main.rt:59:24
 array-share-prefix-lines : tie.Need-array-share-prefix-lines
 array-share-prefix-lines c = let h = read (c .before) in search needs
 
--- src/main.rt:59:24
 slice-aggregate-print-text : tie.Need-slice-aggregate-print-text
 slice-aggregate-print-text c =
     let r = c .before .before .before .before .before in
     let h = read (c .before .before) in
     sym (length-take-le _ _ (omega (arith, h, r .read .kept .1 .0, r .before .before .before .room-for-lines .ensures)))
 
--- src/main.rt:59:13
 print-text-requires : tie.Need-print-text-requires
 print-text-requires c κs = search needs
 
--- src/main.rt:61:29
 enum-known-refusal : tie.Need-enum-known-refusal
 enum-known-refusal c = search needs
 
--- src/main.rt:61:41
 print-refusal-requires : tie.Need-print-refusal-requires
 print-refusal-requires c κs = search needs
 
--- src/main.rt:52:1
 returns : tie.Need-returns
 returns c = search needs
 
--- src/main.rt:52:1
 returns-2 : tie.Need-returns-2
 returns-2 c = search needs
 

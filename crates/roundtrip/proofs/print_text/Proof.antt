@@ -23,50 +23,39 @@ wrote c =
     let h = write-counts _ _ _ _ (rw (c .size .given .1) at (w .write .ensures)) in
     omega (arith, h, w .before .before .room-for-text .ensures)
 
--- src/main.rt:43:20
 room-for-text-requires : tie.Need-room-for-text-requires
 room-for-text-requires c κs = search needs
 
--- src/main.rt:44:31
 slice-aggregate-write : tie.Need-slice-aggregate-write
 slice-aggregate-write c = search needs
 
--- src/main.rt:44:11
 write-requires : tie.Need-write-requires
 write-requires c κs = search needs
 
--- src/main.rt:45:28
 enum-known-size : tie.Need-enum-known-size
 enum-known-size c = search needs
 
--- src/main.rt:46:42
 array-share-prefix-text : tie.Need-array-share-prefix-text
 array-share-prefix-text c = let h = wrote (c .before) in search needs
 
--- src/main.rt:46:42
 slice-aggregate-write-all : tie.Need-slice-aggregate-write-all
 slice-aggregate-write-all c =
     let w = c .before .before .before .before .before in
     let h = wrote (c .before .before) in
     sym (length-take-le _ _ (omega (arith, h, w .write .kept .1 .0, w .before .before .room-for-text .ensures)))
 
--- src/main.rt:46:13
 write-all-requires : tie.Need-write-all-requires
 write-all-requires c κs = search needs
 
--- src/main.rt:48:30
 enum-known-refusal : tie.Need-enum-known-refusal
 enum-known-refusal c = search needs
 
--- src/main.rt:48:42
 print-refusal-requires : tie.Need-print-refusal-requires
 print-refusal-requires c κs = search needs
 
--- src/main.rt:42:1
 returns : tie.Need-returns
 returns c = search needs
 
--- src/main.rt:42:1
 returns-2 : tie.Need-returns-2
 returns-2 c = search needs
 

@@ -1,5 +1,6 @@
 -- `sheet::read` meets its contract: a law of `Reading` for each return. Assumes nothing.
 use mathlib.Core.Path.{_≡_}
+use native.Mathlib.Omega.{arith}
 use borrow.Author.Needs.{needs}
 use denote.Ref.{now}
 use Rattle.patterns.specs.Outcome.{good, counted}
@@ -9,7 +10,7 @@ use Rattle.sheet.proofs.read.Statement.{statement}
 use Rattle.sheet.proofs.read.Tie as tie
 
 returns : tie.Need-returns
-returns c = let a = c .before .before .before .args in read-too-long (now (a .text)) (now (a .lines)) (c .if1 .taken)
+returns c = let a = c .before .before .before .args in read-too-long (now (a .text)) (now (a .lines)) (omega (arith, c .if1 .taken))
 
 check-text-requires : tie.Need-check-text-requires
 check-text-requires c κs = search needs
@@ -32,7 +33,7 @@ returns-2 c =
     let at-n = c .before .before in
     let at-else = at-n .before .before .before in
     let a = at-else .before .before .before .args in
-    read-short (now (a .text)) (now (a .lines)) (at-else .if1 .left) (at-n .n .given .0 .0) (counts at-n) (c .if2 .taken)
+    read-short (now (a .text)) (now (a .lines)) (at-else .if1 .left) (at-n .n .given .0 .0) (counts at-n) (omega (arith, c .if2 .taken))
 
 fill-lines-requires : tie.Need-fill-lines-requires
 fill-lines-requires c κs =

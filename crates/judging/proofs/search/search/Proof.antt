@@ -1,13 +1,14 @@
 -- `judging::search::search` meets its contract. Each loop keeps where the search stands; each branch is an event of it. The measures are what is left of the H lines, the rules and the 512 places. Assumes nothing.
 use mathlib.Core.Path.{_≡_, refl, _∙_}
 use mathlib.Core.Logic.{⊎-elim}
-use Prim.Native.Nat.{ℕ, _-_, _*_, _≤_}
+use Prim.Native.Nat.{ℕ, _-_, _*_, _≤_, _<_}
 use native.Mathlib.Omega.{arith}
 use borrow.Author.Needs.{needs}
-use mathlib.Core.Bool.{false}
-use Rattle.judging.specs.Table.{rulesIn, rowsIn}
+use mathlib.Core.Bool.{true, false}
+use Rattle.judging.specs.Table.{ruleIn, rowBytes, rulesIn, rowsIn}
+use Rattle.judging.specs.Codes.{FiresOn}
 use Rattle.judging.proofs.FoundLaws.{zeros, zero-at}
-use Rattle.judging.proofs.SearchLaws.{turn, Doing, Ruled, Ruling, Heading, doing-begun, ruling-first, ruling-fires, ruling-still, ruling-last, ruling-same, heading-last, heading-same, heading-below, heading-seen, heading-push, heading-more, try-all}
+use Rattle.judging.proofs.SearchLaws.{turn, Doing, Ruled, Ruling, Heading, doing-begun, ruling-first, ruling-fires, ruling-next, ruling-last, heading-last, heading-same, heading-below, heading-seen, heading-push, heading-more, try-all}
 use Rattle.judging.proofs.search.search.Statement.{statement}
 use Rattle.judging.proofs.search.search.Tie as tie
 
@@ -21,7 +22,8 @@ abbrev μ-loop2 : tie.MeasureT-loop2
 
 abbrev Inv-loop : tie.InvT-loop
 Inv-loop lines table rules shapes₀ index₀ parents₀ makers₀ headers₀ fired₀ count₀ full₀ s shape kind digits r₀ shapes index parents makers headers fired count full r =
-    (full ≡ false) × Ruling (rulesIn lines) (rowsIn lines) table digits rules shape kind s r shapes index parents makers headers fired count
+    (full ≡ false) × (r < rules → FiresOn (ruleIn (rowBytes table r)) kind digits true)
+    × Ruling (rulesIn lines) (rowsIn lines) table digits rules shape kind s r shapes index parents makers headers fired count
 
 abbrev μ-loop : tie.MeasureT-loop
 μ-loop lines table rules shapes₀ index₀ parents₀ makers₀ headers₀ fired₀ count₀ full₀ s shape kind digits r₀ shapes index parents makers headers fired count full r =
@@ -36,50 +38,53 @@ abbrev μ-search : tie.MeasureT-search
 μ-search lines table rules shapes₀ index₀ parents₀ makers₀ headers₀ fired₀ count₀ full₀ s₀ shapes index parents makers headers fired count full s =
     512 - s
 
-no-index-requires :
-    tie.Need-no-index-requires Inv-loop2 μ-loop2 Inv-loop μ-loop Inv-search μ-search
-no-index-requires c κs = search needs
-
 find-rows-requires :
     tie.Need-find-rows-requires Inv-loop2 μ-loop2 Inv-loop μ-loop Inv-search μ-search
-find-rows-requires c κs = (c .before .before .before .before .before .before .before .pre .0, refl, c .before .before .before .before .before .no-index .ensures, refl, refl, refl)
+find-rows-requires c κs = search needs
 
 returns : tie.Need-returns Inv-loop2 μ-loop2 Inv-loop μ-loop Inv-search μ-search
 returns c = record { all = λ e. let z : _≡_ {A = ℕ} 0 1 = cc e in let y : ⊥ = omega arith in absurd y; more = λ _. c .before .find-rows .ensures .more (c .if1 .taken) }
 
 search-holds : tie.Need-search-holds Inv-loop2 μ-loop2 Inv-loop μ-loop Inv-search μ-search
-search-holds c = (
-  refl,
-  omega arith,
-  record { fits = c .before .before .before .before .before .before .before .before .before .pre .1; are = c .before .before .before .before .before .before .before .before .before .pre .2 },
-  doing-begun (zeros 256) (c .before .find-rows .ensures .found (c .if1 .left)) (record { size = refl; zeros = zero-at 256 }),
-)
+search-holds c =
+    let s = c .before .before .before .before .before .before .before .before in (
+      refl,
+      omega arith,
+      record { fits = s .pre .1; are = s .pre .2 },
+      doing-begun (zeros 256) (c .before .find-rows .ensures .found (c .if1 .left)) (record { size = refl; zeros = zero-at 256 }),
+    )
 
 mul-shape : tie.Need-mul-shape Inv-loop2 μ-loop2 Inv-loop μ-loop Inv-search μ-search
 mul-shape c = search needs
 
-array-read-shape : tie.Need-array-read-shape Inv-loop2 μ-loop2 Inv-loop μ-loop Inv-search μ-search
-array-read-shape c = search needs
+element-copy-out-shape :
+    tie.Need-element-copy-out-shape Inv-loop2 μ-loop2 Inv-loop μ-loop Inv-search μ-search
+element-copy-out-shape c = search needs
 
 cast-shape : tie.Need-cast-shape Inv-loop2 μ-loop2 Inv-loop μ-loop Inv-search μ-search
-cast-shape c = let b = c .before .search .inv .3 .kept .small _ (c .search-test .taken) in search needs
+cast-shape c = let b = c .before .before .search .inv .3 .kept .small _ (c .before .search-test .taken) in search needs
 
 add-kind : tie.Need-add-kind Inv-loop2 μ-loop2 Inv-loop μ-loop Inv-search μ-search
-add-kind c = let b = c .before .search .inv .3 .kept .small _ (c .search-test .taken) in search needs
+add-kind c = let b = c .before .before .search .inv .3 .kept .small _ (c .before .search-test .taken) in search needs
 
 add-digits : tie.Need-add-digits Inv-loop2 μ-loop2 Inv-loop μ-loop Inv-search μ-search
-add-digits c = let b = c .before .search .inv .3 .kept .small _ (c .search-test .taken) in search needs
+add-digits c = let b = c .before .before .search .inv .3 .kept .small _ (c .before .search-test .taken) in search needs
 
 digits-requires : tie.Need-digits-requires Inv-loop2 μ-loop2 Inv-loop μ-loop Inv-search μ-search
 digits-requires c κs = search needs
 
+next-fire-requires :
+    tie.Need-next-fire-requires Inv-loop2 μ-loop2 Inv-loop μ-loop Inv-search μ-search
+next-fire-requires c κs =
+    let i = c .before .before .before .search .inv in
+    let x = ruling-first _ _ _ (i .2) (i .3) refl (c .before .before .search-test .taken) refl (c .digits .ensures) in
+    (i .2 .fits, omega arith, x .on .digits-fit)
+
 loop-holds : tie.Need-loop-holds Inv-loop2 μ-loop2 Inv-loop μ-loop Inv-search μ-search
 loop-holds c =
-    let i = c .before .before .search .inv in
-    (i .0, ruling-first _ _ _ (i .2) (i .3) refl (c .before .search-test .taken) refl (c .digits .ensures))
-
-fires-requires : tie.Need-fires-requires Inv-loop2 μ-loop2 Inv-loop μ-loop Inv-search μ-search
-fires-requires c κs = search needs
+    let i = c .before .before .before .before .search .inv in
+    let f = c .next-fire .ensures in
+    (i .0, f .fires, ruling-next (ruling-first _ _ _ (i .2) (i .3) refl (c .before .before .before .search-test .taken) refl (c .before .digits .ensures)) f)
 
 array-write-fired :
     tie.Need-array-write-fired Inv-loop2 μ-loop2 Inv-loop μ-loop Inv-search μ-search
@@ -91,17 +96,19 @@ rule-byte-requires c κs = search needs
 
 loop2-holds : tie.Need-loop2-holds Inv-loop2 μ-loop2 Inv-loop μ-loop Inv-search μ-search
 loop2-holds c =
-    let i = c .before .before .before .before .loop .inv in
-    (i .0, ruling-fires (i .1) _ _ (c .before .before .fires .ensures) (c .before .if2 .taken) (c .before .before .before .loop-test .taken) (c .rule-byte .ensures .0))
+    let i = c .before .before .loop .inv in
+    let l = c .before .loop-test .taken in
+    (i .0, ruling-fires (i .2) _ (i .1 l) l (c .rule-byte .ensures .0))
 
 made-requires : tie.Need-made-requires Inv-loop2 μ-loop2 Inv-loop μ-loop Inv-search μ-search
 made-requires c κs = let x = c .before .loop2 .inv .1 in (x .ruled .fits, x .r-low, heading-below x (c .loop2-test .taken), x .on .digits-fit)
 
-mul-if3 : tie.Need-mul-if3 Inv-loop2 μ-loop2 Inv-loop μ-loop Inv-search μ-search
-mul-if3 c = search needs
+mul-if2 : tie.Need-mul-if2 Inv-loop2 μ-loop2 Inv-loop μ-loop Inv-search μ-search
+mul-if2 c = search needs
 
-array-read-if3 : tie.Need-array-read-if3 Inv-loop2 μ-loop2 Inv-loop μ-loop Inv-search μ-search
-array-read-if3 c = search needs
+element-copy-out-if2 :
+    tie.Need-element-copy-out-if2 Inv-loop2 μ-loop2 Inv-loop μ-loop Inv-search μ-search
+element-copy-out-if2 c = search needs
 
 add-push : tie.Need-add-push Inv-loop2 μ-loop2 Inv-loop μ-loop Inv-search μ-search
 add-push c = search needs
@@ -126,9 +133,9 @@ loop2-less c = search needs
 
 loop2-again : tie.Need-loop2-again Inv-loop2 μ-loop2 Inv-loop μ-loop Inv-search μ-search
 loop2-again c =
-    let i = c .before .before .before .loop2 .inv in
-    let m = c .before .made in
-    let t = c .before .before .loop2-test .taken in (
+    let i = c .before .before .before .before .loop2 .inv in
+    let m = c .before .before .made in
+    let t = c .before .before .before .loop2-test .taken in (
       i .0,
       ⊎-elim
           (λ w.
@@ -136,25 +143,26 @@ loop2-again c =
           heading-same (heading-push (i .1) _ (m .ensures) t (w .1 .left) (w .0 .taken)) _ _ _ _ _ _ (w .8 ∙ p .0) (w .9 ∙ p .1) (w .10 ∙ p .2) (w .11 ∙ p .3)
           (w .12 ∙ p .4) (w .13))
           (λ w. heading-same (heading-seen (i .1) _ (m .ensures) t (w .0 .left)) _ _ _ _ _ _ (w .1) (w .2) (w .3) (w .4) (w .5) (w .6))
-          (c .if3 .came),
+          (c .if2 .came),
     )
 
-add-r : tie.Need-add-r Inv-loop2 μ-loop2 Inv-loop μ-loop Inv-search μ-search
-add-r c = search needs
+add-next-fire : tie.Need-add-next-fire Inv-loop2 μ-loop2 Inv-loop μ-loop Inv-search μ-search
+add-next-fire c = search needs
+
+next-fire-requires-2 :
+    tie.Need-next-fire-requires-2 Inv-loop2 μ-loop2 Inv-loop μ-loop Inv-search μ-search
+next-fire-requires-2 c κs = let x = c .before .loop2 .inv .1 in let l = x .r-low in (x .ruled .fits, omega arith, x .on .digits-fit)
 
 loop-less : tie.Need-loop-less Inv-loop2 μ-loop2 Inv-loop μ-loop Inv-search μ-search
-loop-less c = search needs
+loop-less c =
+    let l = c .before .before .loop2 .inv .1 .r-low in
+    let f = c .next-fire2 .ensures .begun in omega arith
 
 loop-again : tie.Need-loop-again Inv-loop2 μ-loop2 Inv-loop μ-loop Inv-search μ-search
 loop-again c =
-    let i = c .before .before .before .loop .inv in
-    let l = c .before .before .loop-test .taken in
-    ⊎-elim
-    (λ w.
-    (w .11 ∙ w .2 .inv .0, ruling-same (heading-last (w .2 .inv .1) (w .3 .left)) _ _ _ _ _ _ _ (w .4) (w .5) (w .6) (w .7) (w .8) (w .9) (w .10)))
-    (λ w.
-    (w .8 ∙ i .0, ruling-same (ruling-still (i .1) _ (c .before .fires .ensures) (w .0 .left) l) _ _ _ _ _ _ _ (w .1) (w .2) (w .3) (w .4) (w .5) (w .6) (w .7)))
-    (c .if2 .came)
+    let i = c .before .before .loop2 .inv in
+    let f = c .next-fire2 .ensures in
+    (i .0, f .fires, ruling-next (heading-last (i .1) (c .before .loop2-test .left)) f)
 
 add-s : tie.Need-add-s Inv-loop2 μ-loop2 Inv-loop μ-loop Inv-search μ-search
 add-s c = search needs
@@ -165,8 +173,8 @@ search-less c = search needs
 search-again : tie.Need-search-again Inv-loop2 μ-loop2 Inv-loop μ-loop Inv-search μ-search
 search-again c =
     let i = c .before .loop .inv in
-    let l = i .1 .s-low in
-    (i .0, omega arith, i .1 .ruled, ruling-last (i .1) (c .loop-test .left))
+    let l = i .2 .s-low in
+    (i .0, omega arith, i .2 .ruled, ruling-last (i .2) (c .loop-test .left))
 
 returns-2 : tie.Need-returns-2 Inv-loop2 μ-loop2 Inv-loop μ-loop Inv-search μ-search
 returns-2 c =
@@ -178,10 +186,10 @@ returns-2 c =
 
 returns-3 : tie.Need-returns-3 Inv-loop2 μ-loop2 Inv-loop μ-loop Inv-search μ-search
 returns-3 c =
-    let i = c .before .before .before .before .loop2 .inv in
+    let i = c .before .before .before .before .before .loop2 .inv in
     record {
       all = λ e. let z : _≡_ {A = ℕ} 0 1 = cc e in let y : ⊥ = omega arith in absurd y;
-      more = λ _. heading-more (i .1) _ (c .before .before .made .ensures) (c .before .before .before .loop2-test .taken) (c .if4 .taken) (c .before .if3 .taken);
+      more = λ _. heading-more (i .1) _ (c .before .before .before .made .ensures) (c .before .before .before .before .loop2-test .taken) (c .if3 .taken) (c .before .if2 .taken);
     }
 
 pub search-spec : {M : Type 1} → statement M
@@ -194,24 +202,23 @@ search-spec =
     μ-loop
     Inv-search
     μ-search
-    no-index-requires
     find-rows-requires
     returns
     search-holds
     mul-shape
-    array-read-shape
+    element-copy-out-shape
     cast-shape
     add-kind
     add-digits
     digits-requires
+    next-fire-requires
     loop-holds
-    fires-requires
     array-write-fired
     rule-byte-requires
     loop2-holds
     made-requires
-    mul-if3
-    array-read-if3
+    mul-if2
+    element-copy-out-if2
     add-push
     add-push-2
     add-push-3
@@ -220,7 +227,8 @@ search-spec =
     add-h
     loop2-less
     loop2-again
-    add-r
+    add-next-fire
+    next-fire-requires-2
     loop-less
     loop-again
     add-s

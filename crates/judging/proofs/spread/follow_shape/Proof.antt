@@ -1,16 +1,17 @@
--- `spread::follow_shape` meets its contract. Assumes nothing.
-use mathlib.Core.Logic.{⊎-elim}
+-- `spread::follow_shape` meets its contract. Each loop keeps that the links of the rules, or H lines, so far were followed; a rule that is come to fires. Assumes nothing.
+use mathlib.Core.Path.{refl}
+use mathlib.Core.Bool.{true}
 use Prim.Native.Nat.{_-_, _<_, _≤_}
 use native.Mathlib.Omega.{arith}
 use borrow.Author.Needs.{needs}
 use lib.ListN.{getD}
 use Rattle.chase.specs.Simplification.{Applies}
 use Rattle.judging.specs.Table.{rowBytes, ruleIn}
-use Rattle.judging.specs.Codes.{shapeAt}
+use Rattle.judging.specs.Codes.{shapeAt, FiresOn, DigitsFit}
 use Rattle.judging.specs.Passes.{Done, Upto, RuleE, MadeE}
 use Rattle.judging.proofs.CodeLaws.{digits-at-fit}
-use Rattle.judging.proofs.PassLaws.{none, next, whole, arrived}
-use Rattle.judging.proofs.LinkLaws.{applies, applies-not, unfired, fired, line-fits, target, made-done}
+use Rattle.judging.proofs.PassLaws.{none, next, whole}
+use Rattle.judging.proofs.LinkLaws.{applies, unfired, fired, line-fits, Target, target, made-done}
 use Rattle.judging.proofs.spread.follow_shape.Statement.{statement}
 use Rattle.judging.proofs.spread.follow_shape.Tie as tie
 
@@ -25,11 +26,34 @@ abbrev μ-loop2 : tie.MeasureT-loop2
 
 abbrev Inv-loop : tie.InvT-loop
 Inv-loop table rules shape index n s generations₀ from₀ links₀ waiting₀ before kind digits last₀ r₀ generations from links waiting last r =
-    (r ≤ rules) × Done n (Upto r (RuleE table index shape s)) generations₀ from₀ links₀ waiting₀ last₀ generations from links waiting last
+    (r ≤ rules) × (r < rules → FiresOn (ruleIn (rowBytes table r)) kind digits true)
+    × Done n (Upto r (RuleE table index shape s)) generations₀ from₀ links₀ waiting₀ last₀ generations from links waiting last
 
 abbrev μ-loop : tie.MeasureT-loop
 μ-loop table rules shape index n s generations₀ from₀ links₀ waiting₀ before kind digits last₀ r₀ generations from links waiting last r =
     rules - r
+
+-- The digits fit.
+digits : (c : tie.After-digits Inv-loop2 μ-loop2 Inv-loop μ-loop) → DigitsFit (c .digits .result)
+digits c = rw (c .digits .ensures) (digits-at-fit (c .before .args .shape) (c .before .pre .2))
+
+-- H line `h` is one of the rule's.
+below : (c : tie.In-loop2 Inv-loop2 μ-loop2 Inv-loop μ-loop)
+    → c .before .loop2 .h < getD (rowBytes (c .before .before .before .before .before .before .before .args .table .now) (c .before .before .before .before .loop .r)) 28 0
+below c =
+    let e = c .before .before .rule-byte .ensures .0 in
+    let t = c .loop2-test .taken in omega arith
+
+-- What it makes has a place.
+aim : (c : tie.After-made Inv-loop2 μ-loop2 Inv-loop μ-loop)
+    → Target (rowBytes (c .before .before .before .before .before .before .before .before .args .table .now) (c .before .before .before .before .before .loop .r))
+    (c .before .before .before .before .before .before .before .before .args .index .now) (c .before .before .before .before .before .before .before .before .args .shape)
+    (c .before .before .loop2 .h) (c .before .before .before .before .before .before .before .before .args .n) (c .made .result)
+aim c =
+    let s = c .before .before .before .before .before .before .before .before in
+    target (s .pre .0) (s .pre .3) (s .pre .4) (c .before .before .before .before .before .before .before .digits .ensures)
+    (c .before .before .before .before .before .loop .r) (c .before .before .loop2 .h) (c .before .before .before .before .loop-test .taken)
+    (below (c .before)) (c .before .before .loop2 .inv .1) (c .made .ensures)
 
 add-kind : tie.Need-add-kind Inv-loop2 μ-loop2 Inv-loop μ-loop
 add-kind c =
@@ -41,33 +65,34 @@ add-digits c = search needs
 digits-requires : tie.Need-digits-requires Inv-loop2 μ-loop2 Inv-loop μ-loop
 digits-requires c κs = search needs
 
+next-fire-requires : tie.Need-next-fire-requires Inv-loop2 μ-loop2 Inv-loop μ-loop
+next-fire-requires c κs = (c .before .pre .0, omega arith, digits c)
+
 loop-holds : tie.Need-loop-holds Inv-loop2 μ-loop2 Inv-loop μ-loop
 loop-holds c =
-    (omega arith, none (c .before .pre .5))
-
-fires-requires : tie.Need-fires-requires Inv-loop2 μ-loop2 Inv-loop μ-loop
-fires-requires c κs =
-    let s = c .before .before .before in
-    (s .pre .0, c .loop-test .taken, rw (c .before .before .digits .ensures) (digits-at-fit (s .args .shape) (s .pre .2)))
+    let s = c .before .before in
+    let f = c .next-fire .ensures in (f .within, f .fires, unfired (s .pre .3) (c .before .digits .ensures) f (none (s .pre .5)))
 
 rule-byte-requires : tie.Need-rule-byte-requires Inv-loop2 μ-loop2 Inv-loop μ-loop
 rule-byte-requires c κs =
-    let s = c .before .before .before .before .before in
+    let s = c .before .before .before .before in
     let f = s .pre .0 .few in
-    let l = c .before .before .loop-test .taken in (s .pre .0 .size, omega arith, omega arith)
+    let l = c .loop-test .taken in (s .pre .0 .size, omega arith, omega arith)
 
 loop2-holds : tie.Need-loop2-holds Inv-loop2 μ-loop2 Inv-loop μ-loop
 loop2-holds c =
-    let s = c .before .before .before .before .before .before in (
+    let s = c .before .before .before .before .before in
+    let l = c .before .before .loop in (
       omega arith,
-      applies (ruleIn (rowBytes (s .args .table .now) (c .before .before .before .before .loop .r))) (s .args .shape) (s .pre .3) (c .before .before .before .before .before .digits .ensures) (c .before .before .fires .ensures) (c .before .if1 .taken),
-      none (c .before .before .before .before .loop .inv .1 .live),
+      applies (ruleIn (rowBytes (s .args .table .now) (l .r))) (s .args .shape) (s .pre .3) (c .before .before .before .before .digits .ensures)
+          (l .inv .1 (c .before .loop-test .taken)) refl,
+      none (l .inv .2 .live),
     )
 
 made-requires : tie.Need-made-requires Inv-loop2 μ-loop2 Inv-loop μ-loop
 made-requires c κs =
-    let s = c .before .before .before .before .before .before .before .before in
-    let l : c .before .loop2 .h < getD (rowBytes (s .args .table .now) (c .before .before .before .before .before .before .loop .r)) 28 0 = (let e = c .before .before .rule-byte .ensures .0 in let t = c .loop2-test .taken in omega arith) in (s .pre .0, c .before .before .before .before .before .loop-test .taken, l, rw (c .before .before .before .before .before .before .before .digits .ensures) (digits-at-fit (s .args .shape) (s .pre .2)))
+    let b = c .before .before .before in
+    (b .before .before .before .before .pre .0, b .loop-test .taken, below c, digits (b .before .before .before))
 
 mul-t : tie.Need-mul-t Inv-loop2 μ-loop2 Inv-loop μ-loop
 mul-t c = search needs
@@ -78,29 +103,32 @@ element-copy-out-t c =
 
 cast-t : tie.Need-cast-t Inv-loop2 μ-loop2 Inv-loop μ-loop
 cast-t c =
-    let s = c .before .before .before .before .before .before .before .before .before .before in
-    let l : c .before .before .before .loop2 .h < getD (rowBytes (s .args .table .now) (c .before .before .before .before .before .before .before .before .loop .r)) 28 0 = (let e = c .before .before .before .before .rule-byte .ensures .0 in let t = c .before .before .loop2-test .taken in omega arith) in
-    let o = target (s .pre .0) (s .pre .3) (s .pre .4) (c .before .before .before .before .before .before .before .before .before .digits .ensures) (c .before .before .before .before .before .before .before .before .loop .r) (c .before .before .before .loop2 .h) (c .before .before .before .before .before .before .before .loop-test .taken) l (c .before .before .before .loop2 .inv .1) (c .before .made .ensures) in
+    let o = aim (c .before) in
     let e = o .read in
     let q = o .low in
-    let z = s .pre .5 .small in omega arith
+    let z = c .before .before .before .before .before .before .before .before .before .pre .5 .small in omega arith
 
 sub-t : tie.Need-sub-t Inv-loop2 μ-loop2 Inv-loop μ-loop
 sub-t c =
-    let s = c .before .before .before .before .before .before .before .before .before .before in
-    let l : c .before .before .before .loop2 .h < getD (rowBytes (s .args .table .now) (c .before .before .before .before .before .before .before .before .loop .r)) 28 0 = (let e = c .before .before .before .before .rule-byte .ensures .0 in let t = c .before .before .loop2-test .taken in omega arith) in
-    let o = target (s .pre .0) (s .pre .3) (s .pre .4) (c .before .before .before .before .before .before .before .before .before .digits .ensures) (c .before .before .before .before .before .before .before .before .loop .r) (c .before .before .before .loop2 .h) (c .before .before .before .before .before .before .before .loop-test .taken) l (c .before .before .before .loop2 .inv .1) (c .before .made .ensures) in
-    let e = o .read in omega arith
+    let e = aim (c .before) .read in omega arith
 
 follow-head-requires : tie.Need-follow-head-requires Inv-loop2 μ-loop2 Inv-loop μ-loop
 follow-head-requires c κs =
-    let s = c .before .before .before .before .before .before .before .before .before .before .before .before .before .before in
+    let m = c .before .before .before .before .before in
+    let s = m .before .before .before .before .before .before .before .before in
     let f = s .pre .0 .few in
-    let l : c .before .before .before .before .before .before .before .loop2 .h < getD (rowBytes (s .args .table .now) (c .before .before .before .before .before .before .before .before .before .before .before .before .loop .r)) 28 0 = (let e = c .before .before .before .before .before .before .before .before .rule-byte .ensures .0 in let t = c .before .before .before .before .before .before .loop2-test .taken in omega arith) in
-    let o = target (s .pre .0) (s .pre .3) (s .pre .4) (c .before .before .before .before .before .before .before .before .before .before .before .before .before .digits .ensures) (c .before .before .before .before .before .before .before .before .before .before .before .before .loop .r) (c .before .before .before .before .before .before .before .loop2 .h) (c .before .before .before .before .before .before .before .before .before .before .before .loop-test .taken) l (c .before .before .before .before .before .before .before .loop2 .inv .1) (c .before .before .before .before .before .made .ensures) in
+    let l = m .before .before .before .before .loop-test .taken in
+    let o = aim m in
     let e = o .read in
-    let q = o .low in
-    (s .pre .0 .size, omega arith, line-fits (s .pre .0) (s .pre .3) (s .pre .4) (c .before .before .before .before .before .before .before .before .before .before .before .before .before .digits .ensures) (c .before .before .before .before .before .before .before .before .before .before .before .before .loop .r) (c .before .before .before .before .before .before .before .loop2 .h) (c .before .before .before .before .before .before .before .before .before .before .before .loop-test .taken) l (c .before .before .before .before .before .before .before .loop2 .inv .1), c .before .before .before .before .before .before .before .loop2 .inv .2 .live, s .pre .6, omega arith)
+    let q = o .low in (
+      s .pre .0 .size,
+      omega arith,
+      line-fits (s .pre .0) (s .pre .3) (s .pre .4) (m .before .before .before .before .before .before .before .digits .ensures)
+          (m .before .before .before .before .before .loop .r) (m .before .before .loop2 .h) l (below (m .before)) (m .before .before .loop2 .inv .1),
+      m .before .before .loop2 .inv .2 .live,
+      s .pre .6,
+      omega arith,
+    )
 
 add-h : tie.Need-add-h Inv-loop2 μ-loop2 Inv-loop μ-loop
 add-h c = search needs
@@ -110,42 +138,47 @@ loop2-less c = search needs
 
 loop2-again : tie.Need-loop2-again Inv-loop2 μ-loop2 Inv-loop μ-loop
 loop2-again c =
-    let s = c .before .before .before .before .before .before .before .before .before .before .before .before .before .before .before in
-    let l : c .before .before .before .before .before .before .before .before .loop2 .h < getD (rowBytes (s .args .table .now) (c .before .before .before .before .before .before .before .before .before .before .before .before .before .loop .r)) 28 0 = (let e = c .before .before .before .before .before .before .before .before .before .rule-byte .ensures .0 in let t = c .before .before .before .before .before .before .before .loop2-test .taken in omega arith) in
-    let o = target (s .pre .0) (s .pre .3) (s .pre .4) (c .before .before .before .before .before .before .before .before .before .before .before .before .before .before .digits .ensures) (c .before .before .before .before .before .before .before .before .before .before .before .before .before .loop .r) (c .before .before .before .before .before .before .before .before .loop2 .h) (c .before .before .before .before .before .before .before .before .before .before .before .before .loop-test .taken) l (c .before .before .before .before .before .before .before .before .loop2 .inv .1) (c .before .before .before .before .before .before .made .ensures) in
+    let m = c .before .before .before .before .before .before in
+    let s = m .before .before .before .before .before .before .before .before in
+    let i = m .before .before .loop2 .inv in
+    let o = aim m in
     let e = o .read in (
       omega arith,
-      c .before .before .before .before .before .before .before .before .loop2 .inv .1,
-      next (c .before .before .before .before .before .before .before .before .loop2 .inv .2)
-          (made-done (s .pre .0) (s .pre .3) (s .pre .4) (c .before .before .before .before .before .before .before .before .before .before .before .before .before .before .digits .ensures) (c .before .before .before .before .before .before .before .before .before .before .before .before .before .loop .r) (c .before .before .before .before .before .before .before .before .loop2 .h) (c .before .before .before .before .before .before .before .before .before .before .before .before .loop-test .taken) l (c .before .before .before .before .before .before .before .before .loop2 .inv .1) o (omega arith) (c .follow-head .ensures)),
+      i .1,
+      next (i .2)
+          (made-done (s .pre .0) (s .pre .3) (s .pre .4) (m .before .before .before .before .before .before .before .digits .ensures)
+          (m .before .before .before .before .before .loop .r) (m .before .before .loop2 .h) (m .before .before .before .before .loop-test .taken)
+          (below (m .before)) (i .1) o (omega arith) (c .follow-head .ensures)),
     )
 
-add-r : tie.Need-add-r Inv-loop2 μ-loop2 Inv-loop μ-loop
-add-r c = search needs
+add-next-fire : tie.Need-add-next-fire Inv-loop2 μ-loop2 Inv-loop μ-loop
+add-next-fire c = search needs
+
+next-fire-requires-2 : tie.Need-next-fire-requires-2 Inv-loop2 μ-loop2 Inv-loop μ-loop
+next-fire-requires-2 c κs =
+    let b = c .before .before .before in
+    let l = b .loop-test .taken in (b .before .before .before .before .pre .0, omega arith, digits (b .before .before .before))
 
 loop-less : tie.Need-loop-less Inv-loop2 μ-loop2 Inv-loop μ-loop
-loop-less c = search needs
+loop-less c =
+    let l = c .before .before .before .before .loop-test .taken in
+    let f = c .next-fire2 .ensures .begun in omega arith
 
 loop-again : tie.Need-loop-again Inv-loop2 μ-loop2 Inv-loop μ-loop
 loop-again c =
-    let s = c .before .before .before .before .before in (
-      omega arith,
-      next (c .before .before .before .loop .inv .1)
-          (⊎-elim
-          (λ w.
-          let e = w .1 .ensures .0 in
-          let a = w .2 .inv .0 in
-          let b = w .3 .left in
-          arrived (w .4) (w .5) (w .6) (w .7) (w .8) (fired (w .2 .inv .1) (whole (w .2 .inv .2) (omega arith) (omega arith))))
-          (λ w.
-          arrived (w .1) (w .2) (w .3) (w .4) (w .5)
-          (unfired (applies-not (ruleIn (rowBytes (s .args .table .now) (c .before .before .before .loop .r))) (s .args .shape) (s .pre .3) (c .before .before .before .before .digits .ensures) (c .before .fires .ensures) (w .0 .left)) (c .before .before .before .loop .inv .1 .live)))
-          (c .if1 .came)),
-    )
+    let d = c .before .before in
+    let b = d .before .before .before in
+    let s = b .before .before .before in
+    let e = d .before .rule-byte .ensures .0 in
+    let i = d .loop2 .inv in
+    let a = i .0 in
+    let l = c .before .loop2-test .left in
+    let f = c .next-fire2 .ensures in
+    (f .within, f .fires, unfired (s .pre .3) (b .before .before .digits .ensures) f (next (b .loop .inv .2) (fired (i .1) (whole (i .2) (omega arith) (omega arith)))))
 
 returns : tie.Need-returns Inv-loop2 μ-loop2 Inv-loop μ-loop
 returns c =
-    whole (c .before .loop .inv .1) (c .before .loop .inv .0) (c .loop-test .left)
+    whole (c .before .loop .inv .2) (c .before .loop .inv .0) (c .loop-test .left)
 
 pub follow-shape-spec : {M : Type 1} → statement M
 follow-shape-spec =
@@ -158,8 +191,8 @@ follow-shape-spec =
     add-kind
     add-digits
     digits-requires
+    next-fire-requires
     loop-holds
-    fires-requires
     rule-byte-requires
     loop2-holds
     made-requires
@@ -171,7 +204,8 @@ follow-shape-spec =
     add-h
     loop2-less
     loop2-again
-    add-r
+    add-next-fire
+    next-fire-requires-2
     loop-less
     loop-again
     returns)

@@ -1,4 +1,4 @@
--- `trail::deepest` meets its contract: the best node so far is the deepest of those passed. Assumes nothing.
+-- `trail::deepest` meets its contract: the best node so far is the deepest of those passed where a fresh link leads. Assumes nothing.
 use mathlib.Core.Path.{_≡_}
 use mathlib.Core.Logic.{⊎-elim}
 use Prim.Native.Nat.{_-_, _≤_}
@@ -10,19 +10,24 @@ use Rattle.judging.proofs.trail.deepest.Statement.{statement}
 use Rattle.judging.proofs.trail.deepest.Tie as tie
 
 abbrev Inv-loop : tie.InvT-loop
-Inv-loop n generations best₀ v₀ best v = (v ≤ n) × Deepest generations v best
+Inv-loop n generations link best₀ v₀ best v = (v ≤ n) × Deepest generations link v best
 
 abbrev μ-loop : tie.MeasureT-loop
-μ-loop n generations best₀ v₀ best v = n - v
+μ-loop n generations link best₀ v₀ best v = n - v
 
 loop-holds : tie.Need-loop-holds Inv-loop μ-loop
 loop-holds c = search needs
 
 number-requires : tie.Need-number-requires Inv-loop μ-loop
-number-requires c κs = (c .before .before .pre .0, omega (arith, deepest-node (c .before .loop .inv .1)))
+number-requires c κs = search needs
 
 number-requires-2 : tie.Need-number-requires-2 Inv-loop μ-loop
-number-requires-2 c κs = search needs
+number-requires-2 c κs =
+    let head = c .before .before .before in
+    (head .before .pre .0, omega (arith, deepest-node (head .loop .inv .1)))
+
+number-requires-3 : tie.Need-number-requires-3 Inv-loop μ-loop
+number-requires-3 c κs = search needs
 
 add-v : tie.Need-add-v Inv-loop μ-loop
 add-v c = search needs
@@ -32,11 +37,13 @@ loop-less c = search needs
 
 loop-again : tie.Need-loop-again Inv-loop μ-loop
 loop-again c =
-    let d = c .before .before .before .before .loop .inv .1 in
-    let first = c .before .before .number .ensures in
-    let second = c .before .number2 .ensures in (
+    let d = c .before .before .before .loop .inv .1 in
+    let code = c .before .number .ensures in (
       search needs,
-      ⊎-elim (λ w. rw (w .1) (deepest-raised d (omega (arith, w .0 .taken, first, second)))) (λ w. rw (w .1) (deepest-same d (omega (arith, w .0 .left, first, second))))
+      ⊎-elim
+          (λ w. rw (w .4) (deepest-raised d (omega (arith, w .0 .taken)) (omega (arith, w .1 .ensures, w .2 .ensures, w .3 .taken))))
+          (⊎-elim (λ w. rw (w .4) (deepest-same d (λ e. omega (arith, w .1 .ensures, w .2 .ensures, w .3 .left))))
+          (λ w. rw (w .1) (deepest-same d (λ e. absurd (w .0 .left (omega arith))))))
           (c .if1 .came),
     )
 
@@ -55,6 +62,7 @@ deepest-spec =
     loop-holds
     number-requires
     number-requires-2
+    number-requires-3
     add-v
     loop-less
     loop-again

@@ -38,7 +38,7 @@ add-if1 : tie.Need-add-if1 Inv-loop μ-loop
 add-if1 c = search needs
 
 returns : tie.Need-returns Inv-loop μ-loop
-returns c = let l = c .before .before .before in sym (l .loop .inv .2 ∙ too-large (l .before .args .fields) (l .loop .i) (l .before .args .t1) (inside l (omega arith)) (c .before .if1 .taken) (c .if2 .taken))
+returns c = let l = c .before .before .before in sym (l .loop .inv .2 ∙ too-large (l .before .args .fields) (l .loop .i) (l .before .args .t1) (inside l (omega arith)) (c .before .if1 .taken) (omega (arith, c .if2 .taken)))
 
 returns-2 : tie.Need-returns-2 Inv-loop μ-loop
 returns-2 c = let l = c .before .before .before in sym (l .loop .inv .2 ∙ not-unused (l .before .args .fields) (l .loop .i) (l .before .args .t1) (inside l (omega arith)) (c .before .if1 .left) (c .if3 .taken))

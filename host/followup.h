@@ -1,0 +1,176 @@
+/* Follow-up sheets: reading, writing and judging them, from C99 or C++ on x86-64. Link with libtablet.a; it uses the C library's
+ * memcpy and memset and nothing else.
+ *
+ * A sheet is a text; followup_read turns it into lines, eight numbers each, and followup_judge says of those lines whether
+ * the follow-ups come to rest. The caller lends all memory.
+ *
+ * Numbers. Lent lines and fields are u32, lent steps are u16, each as its bytes, lowest first. A last part too short for
+ * a number (up to 3 bytes of lines or fields, 1 byte of steps) counts as none and is never changed.
+ *
+ * Pointers. Each must be non-null, also where its length is 0; any non-null pointer will do then, as nothing is touched.
+ * Otherwise the whole length must be readable (const) or readable and writable (lent). Alignment 1 suffices. No length may pass
+ * PTRDIFF_MAX. Lent memory must not overlap the input, and during a call no other thread may write to the input or
+ * touch the lent memory.
+ *
+ * Answers. `refusal` is 0 where a call is good. On a refusal every other figure but `line` is 0 and the lent memory holds
+ * what it held. A good call changes only what it counts in its answer.
+ *
+ * Threads. A call uses no heap, no global, no lock and no system call; any number of threads may call at once. A thread
+ * that calls needs FOLLOWUP_STACK bytes of stack.
+ */
+#ifndef FOLLOWUP_H
+#define FOLLOWUP_H
+
+#include <stddef.h>
+#include <stdint.h>
+
+#ifdef __cplusplus
+extern "C" {
+#endif
+
+/* Stack that suffices for a thread that makes any of the calls. Judging uses most, about 200,000 bytes (test.c measures it); the
+ * rest is for what the thread itself needs, its thread-local data included. */
+#define FOLLOWUP_STACK ((size_t)256 * 1024)
+
+/* Limits of a text and of a sheet. */
+#define FOLLOWUP_TEXT_MAX 32768      /* bytes of a text */
+#define FOLLOWUP_NUMBER_MAX 99999999 /* largest number in a column */
+#define FOLLOWUP_KINDS_MAX 64        /* kinds are 1 to 64 */
+#define FOLLOWUP_WIDTH_MAX 6         /* a kind has 1 to 6 fields */
+#define FOLLOWUP_MARKS_MAX 12        /* marks of a rule are 1 to 12 */
+#define FOLLOWUP_RULES_MAX 256       /* rules of a sheet */
+#define FOLLOWUP_HEADS_MAX 4         /* a rule has 1 to 4 H lines */
+#define FOLLOWUP_ROWS_MAX 1024       /* rows of a sheet */
+#define FOLLOWUP_PATTERNS 278        /* patterns of 1 to 6 fields */
+#define FOLLOWUP_SHAPES_MAX 512      /* shapes that the reachable records may show */
+
+/* Sizes of lent memory. */
+#define FOLLOWUP_LINE_BYTES 32    /* one line: eight u32 */
+#define FOLLOWUP_FIELD_BYTES 4    /* one field: a u32 */
+#define FOLLOWUP_STEP_BYTES 10    /* one step: five u16 */
+#define FOLLOWUP_TEXT_LINES 1638  /* reading gives at most so many lines */
+#define FOLLOWUP_SHEET_LINES 2368 /* a sheet has at most so many: 64 kinds, 256 rules of 5 lines, 1,024 rows */
+#define FOLLOWUP_STEPS 4096       /* steps to lend, at least */
+#define FOLLOWUP_TEXT_LINES_BYTES ((size_t)FOLLOWUP_TEXT_LINES * FOLLOWUP_LINE_BYTES)   /* 52,416: enough for reading */
+#define FOLLOWUP_SHEET_LINES_BYTES ((size_t)FOLLOWUP_SHEET_LINES * FOLLOWUP_LINE_BYTES) /* 75,776 */
+#define FOLLOWUP_STEPS_BYTES ((size_t)FOLLOWUP_STEPS * FOLLOWUP_STEP_BYTES)             /* 40,960: enough for judging */
+
+/* Refusals. Lines count from 1; the line is 0 where none is named. */
+enum {
+    FOLLOWUP_GOOD = 0,         /* no refusal */
+    FOLLOWUP_TEXT_LONG = 1,    /* read, write: the text is, or would be, over 32,768 bytes; line 0 */
+    FOLLOWUP_FORM_WRONG = 2,   /* read: a line is not in the form, or has no final byte 10 */
+    FOLLOWUP_OUT_OF_PLACE = 3, /* read: a line is out of place; a rule without H at the end, with the line after the last */
+    FOLLOWUP_KIND_WRONG = 4,   /* read: kind or width outside its range or order, kind not declared, or a line not as wide as its kind */
+    FOLLOWUP_MARK_WRONG = 5,   /* read: a mark is not 1 to 12, or skips one */
+    FOLLOWUP_TOO_MANY = 6,     /* read: a rule, an H line or a row too many */
+    FOLLOWUP_LINES_SHORT = 7,  /* read: more lines than were lent, with the first that does not fit */
+    FOLLOWUP_LINE_WRONG = 8,   /* write, judge: the lent lines are no sheet, with the first wrong line */
+    FOLLOWUP_TEXT_SHORT = 9,   /* write: the lent text is too short; line 0 */
+    FOLLOWUP_FIELD_COUNT = 10, /* pattern: no field, or more than six; line 0 */
+    FOLLOWUP_SHAPES_OVER = 11, /* judge: the reachable records show more than 512 shapes; line 0 */
+    FOLLOWUP_STEPS_SHORT = 12  /* judge: fewer than 4,096 steps are lent; line 0 */
+};
+
+/* Verdicts. */
+enum {
+    FOLLOWUP_SETTLES = 1, /* no list of firings makes a number of a later generation than the deepest */
+    FOLLOWUP_ENDLESS = 2  /* for every n, some list of firings makes a number of a later generation than n */
+};
+
+/* What reading, writing and finding a pattern answer. */
+struct followup_reply {
+    uint32_t refusal; /* 0: good; otherwise the refusal's number */
+    size_t line;      /* the line that a refusal names; 0 where none, and in a good answer */
+    size_t count;     /* read: lines read; write: bytes written; pattern: its number, 1 to 278; 0 on a refusal */
+};
+
+/* What judging answers. All figures but refusal and line are 0 on a refusal. */
+struct followup_judge_reply {
+    uint32_t refusal; /* 0: good; otherwise the refusal's number */
+    size_t line;      /* the line that a refusal names; 0 where none, and in a good answer */
+    size_t verdict;   /* FOLLOWUP_SETTLES or FOLLOWUP_ENDLESS */
+    size_t deepest;   /* the deepest generation; 0 when endless or without rows */
+    size_t shapes;    /* how many shapes the reachable records show, at most 512 */
+    size_t fired;     /* how many rules fire on some reachable record */
+    size_t share;     /* 100 * fired / rules to the nearest whole, half upward; 0 without rules */
+    size_t row;       /* the row that the trail starts from, counted from 1 among R lines; 0 where it settles with deepest 0 */
+    size_t trail;     /* how many steps the trail has; they come first */
+    size_t turns;     /* how many steps the loop has; they follow the trail's; 0 where the sheet settles */
+};
+
+/* Reads a text into lent lines, 32 bytes each: the letter's byte, the kind, six numbers; unused ones are 0, and a K line
+ * holds its width in the first of the six. FOLLOWUP_TEXT_LINES_BYTES are always enough. A good call changes the first
+ * count * 32 bytes. Refusals: 1; then line by line 2, 3, 4, 5, 6 in this order; last of all 7. */
+struct followup_reply followup_read(const uint8_t *text, size_t text_len, uint8_t *lines, size_t lines_len);
+
+/* Writes lent lines, 32 bytes each, as text. FOLLOWUP_TEXT_MAX bytes of text are always enough. A good call changes the
+ * first count bytes. Refusals: 8, also for an incomplete last line; 1; 9. */
+struct followup_reply followup_write(const uint8_t *lines, size_t lines_len, uint8_t *text, size_t text_len);
+
+/* The number of a record's pattern; its fields are 4 bytes each. Refusal: 10. */
+struct followup_reply followup_pattern(const uint8_t *fields, size_t fields_len);
+
+/* Judges lent lines, 32 bytes each, as reading gives them. At least FOLLOWUP_STEPS_BYTES of steps are to be lent. A good call
+ * changes the first (trail + turns) * 10 bytes of them. Refusals: 12; 8; 11. */
+struct followup_judge_reply followup_judge(const uint8_t *lines, size_t lines_len, uint8_t *steps, size_t steps_len);
+
+/* A step fires its rule on the record that the step before it made, the first on the starting row, and goes on with the record
+ * that one of the rule's H lines makes. Rules count from 1 in sheet order, H lines from 1 within their rule, fields from 1.
+ *   carried (fresh 0): the number at the from field stands at the to field of the record made;
+ *   fresh (fresh 1): a new number stands at the to field, and it depends on the number at the from field;
+ *     from field 0 where the rule carries nothing;
+ *   reaching: from, to and fresh are 0; the step only leads to a record. */
+struct followup_step {
+    uint16_t rule;  /* 1 to 256 */
+    uint16_t head;  /* H line within the rule, 1 to 4 */
+    uint16_t from;  /* from field, 1 to 6, or 0 */
+    uint16_t to;    /* to field, 1 to 6, or 0 */
+    uint16_t fresh; /* 1: fresh, 0: carried or reaching */
+};
+
+/* The u16 that stands at two bytes. */
+static inline uint16_t followup_u16(const uint8_t *bytes)
+{
+    return (uint16_t)((unsigned)bytes[0] | (unsigned)bytes[1] << 8);
+}
+
+/* The u32 that stands at four bytes. */
+static inline uint32_t followup_u32(const uint8_t *bytes)
+{
+    return (uint32_t)followup_u16(bytes) | (uint32_t)followup_u16(bytes + 2) << 16;
+}
+
+/* Puts a u32 into four bytes. */
+static inline void followup_put_u32(uint8_t *bytes, uint32_t number)
+{
+    bytes[0] = (uint8_t)(number & 255);
+    bytes[1] = (uint8_t)(number >> 8 & 255);
+    bytes[2] = (uint8_t)(number >> 16 & 255);
+    bytes[3] = (uint8_t)(number >> 24);
+}
+
+/* Number k of line n, both counted from 0: number 0 is the letter's byte, 1 the kind, 2 to 7 the six numbers. */
+static inline uint32_t followup_line_number(const uint8_t *lines, size_t n, size_t k)
+{
+    return followup_u32(lines + n * FOLLOWUP_LINE_BYTES + k * 4);
+}
+
+/* Step k, counted from 0, of the lent steps: the trail's steps are 0 to trail - 1, the loop's trail to trail + turns - 1. */
+static inline struct followup_step followup_step_at(const uint8_t *steps, size_t k)
+{
+    const uint8_t *at = steps + k * FOLLOWUP_STEP_BYTES;
+    struct followup_step step;
+    step.rule = followup_u16(at);
+    step.head = followup_u16(at + 2);
+    step.from = followup_u16(at + 4);
+    step.to = followup_u16(at + 6);
+    step.fresh = followup_u16(at + 8);
+    return step;
+}
+
+#ifdef __cplusplus
+}
+#endif
+
+#endif

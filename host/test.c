@@ -1,0 +1,1362 @@
+/* Tries the library through its C header: answers, refusals, lent memory, odd lengths, small stacks, threads, noise.
+ *
+ * The input of each call ends at a page that cannot be read. Lent memory lies between guard areas; it and they are filled with
+ * noise and compared byte for byte after the call. Each call is made twice, with other noise at another place: what it counts in
+ * its answer has to be the same. The seed is fixed. */
+#define _DEFAULT_SOURCE
+#include "followup.h"
+
+#include <pthread.h>
+#include <stdio.h>
+#include <stdlib.h>
+#include <string.h>
+#include <sys/mman.h>
+
+_Static_assert(sizeof(size_t) == 8, "x86-64");
+_Static_assert(sizeof(struct followup_reply) == 24 && offsetof(struct followup_reply, line) == 8 && offsetof(struct followup_reply, count) == 16,
+               "layout of a reply");
+_Static_assert(sizeof(struct followup_judge_reply) == 80 && offsetof(struct followup_judge_reply, verdict) == 16 &&
+                   offsetof(struct followup_judge_reply, turns) == 72,
+               "layout of a judge's reply");
+
+#define PAGE ((size_t)4096)
+#define MILLION ((size_t)1000000)
+#define GUARD ((size_t)256)
+#define ROOM ((size_t)1 << 20) /* of the input and of lent memory */
+#define ANY SIZE_MAX           /* a figure that is the library's choice */
+
+/* ---- checks ---- */
+
+static unsigned long checks, failures, group_start;
+static const char *group = "", *subject = "";
+static char note[200]; /* what the group's line says beside its name and count */
+
+static void check(int good, const char *what)
+{
+    checks++;
+    if (good)
+        return;
+    failures++;
+    if (failures <= 20)
+        printf("FAILED: %s: %s: %s\n", group, subject, what);
+}
+
+static void begin_group(const char *name)
+{
+    group = name;
+    subject = "";
+    note[0] = 0;
+    group_start = checks;
+}
+
+static void end_group(void)
+{
+    printf("%s: %lu checks%s\n", group, checks - group_start, note);
+}
+
+static void stop(const char *what)
+{
+    fprintf(stderr, "test: %s failed\n", what);
+    exit(1);
+}
+
+/* ---- noise ---- */
+
+static uint64_t seed = 0x5eed0f0110a5b3c7u;
+
+static uint64_t draw(void)
+{
+    seed ^= seed << 13;
+    seed ^= seed >> 7;
+    seed ^= seed << 17;
+    return seed * 0x2545f4914f6cdd1du;
+}
+
+/* A number from 0 to below n. */
+static size_t below(size_t n)
+{
+    return (size_t)((draw() >> 11) % n);
+}
+
+static void fill(uint8_t *bytes, size_t size)
+{
+    size_t k = 0;
+    for (; k + 8 <= size; k += 8) {
+        uint64_t word = draw();
+        memcpy(bytes + k, &word, 8);
+    }
+    for (; k < size; k++)
+        bytes[k] = (uint8_t)(draw() >> 32);
+}
+
+/* ---- memory ---- */
+
+static uint8_t *input_end;               /* the page here cannot be read */
+static uint8_t *stack;                   /* FOLLOWUP_STACK bytes above a page that cannot be written */
+static uint8_t lent[ROOM + 3 * GUARD];   /* guard, lent memory, guard */
+static uint8_t held[sizeof lent];        /* what it held before the call */
+static uint8_t result[ROOM + 3 * GUARD]; /* what the last call counted in its answer */
+
+static uint8_t *map(size_t size)
+{
+    void *at = mmap(NULL, size, PROT_READ | PROT_WRITE, MAP_PRIVATE | MAP_ANONYMOUS, -1, 0);
+    if (at == MAP_FAILED)
+        stop("mmap");
+    return at;
+}
+
+static void map_memory(void)
+{
+    uint8_t *input = map(ROOM + PAGE);
+    input_end = input + ROOM;
+    if (mprotect(input_end, PAGE, PROT_NONE) != 0)
+        stop("mprotect");
+    uint8_t *below_stack = map(PAGE + FOLLOWUP_STACK);
+    stack = below_stack + PAGE;
+    if (mprotect(below_stack, PAGE, PROT_NONE) != 0)
+        stop("mprotect");
+}
+
+/* Lends so many bytes of noise, at any alignment. */
+static uint8_t *lend(size_t size)
+{
+    size_t at = GUARD + below(16);
+    fill(lent, at + size + GUARD);
+    memcpy(held, lent, at + size + GUARD);
+    return lent + at;
+}
+
+/* Whether nothing but the first `changed` bytes of the lent ones is changed. */
+static int kept(const uint8_t *bytes, size_t size, size_t changed)
+{
+    size_t at = (size_t)(bytes - lent);
+    size_t rest = at + changed;
+    return memcmp(lent, held, at) == 0 && memcmp(lent + rest, held + rest, size - changed + GUARD) == 0;
+}
+
+/* ---- calls ---- */
+
+enum call { NOTHING, READ, WRITE, PATTERN, JUDGE, CALLS };
+
+struct job {
+    enum call call;
+    const uint8_t *in;
+    size_t in_len;
+    uint8_t *out;
+    size_t out_len;
+    struct followup_judge_reply said; /* of the other calls: refusal and line */
+    size_t count;
+};
+
+static void keep_reply(struct job *job, struct followup_reply reply)
+{
+    memset(&job->said, 0, sizeof job->said);
+    job->said.refusal = reply.refusal;
+    job->said.line = reply.line;
+    job->count = reply.count;
+}
+
+static void *make_call(void *arg)
+{
+    struct job *job = arg;
+    job->count = 0;
+    if (job->call == READ)
+        keep_reply(job, followup_read(job->in, job->in_len, job->out, job->out_len));
+    else if (job->call == WRITE)
+        keep_reply(job, followup_write(job->in, job->in_len, job->out, job->out_len));
+    else if (job->call == PATTERN)
+        keep_reply(job, followup_pattern(job->in, job->in_len));
+    else if (job->call == JUDGE)
+        job->said = followup_judge(job->in, job->in_len, job->out, job->out_len);
+    return NULL;
+}
+
+static int small_stack;          /* whether calls are made on a stack of FOLLOWUP_STACK bytes */
+static size_t stack_used[CALLS]; /* the most that such a call used */
+
+static void call_on_small_stack(struct job *job)
+{
+    pthread_attr_t attr;
+    pthread_t thread;
+    size_t left = 0;
+    memset(stack, 0xa5, FOLLOWUP_STACK);
+    if (pthread_attr_init(&attr) != 0 || pthread_attr_setstack(&attr, stack, FOLLOWUP_STACK) != 0)
+        stop("pthread_attr_setstack");
+    if (pthread_create(&thread, &attr, make_call, job) != 0 || pthread_join(thread, NULL) != 0)
+        stop("pthread_create");
+    pthread_attr_destroy(&attr);
+    while (left < FOLLOWUP_STACK && stack[left] == 0xa5)
+        left++;
+    if (stack_used[job->call] < FOLLOWUP_STACK - left)
+        stack_used[job->call] = FOLLOWUP_STACK - left;
+}
+
+/* How many bytes of lent memory the answer counts. */
+static size_t counted(const struct job *job)
+{
+    if (job->said.refusal != 0 || job->call == PATTERN)
+        return 0;
+    if (job->call == JUDGE)
+        return (job->said.trail + job->said.turns) * FOLLOWUP_STEP_BYTES;
+    return job->call == READ ? job->count * FOLLOWUP_LINE_BYTES : job->count;
+}
+
+/* Whether the answer is in the form: line 0 in a good one, no figure beside the line in a refusal. */
+static int reply_in_form(const struct job *job)
+{
+    const struct followup_judge_reply *said = &job->said;
+    if (said->refusal == 0)
+        return said->line == 0;
+    return said->refusal <= 12 && job->count == 0 && said->verdict == 0 && said->deepest == 0 && said->shapes == 0 && said->fired == 0 &&
+           said->share == 0 && said->row == 0 && said->trail == 0 && said->turns == 0;
+}
+
+static int same_reply(const struct job *a, const struct job *b)
+{
+    const struct followup_judge_reply *x = &a->said, *y = &b->said;
+    return x->refusal == y->refusal && x->line == y->line && a->count == b->count && x->verdict == y->verdict && x->deepest == y->deepest &&
+           x->shapes == y->shapes && x->fired == y->fired && x->share == y->share && x->row == y->row && x->trail == y->trail &&
+           x->turns == y->turns;
+}
+
+/* Makes a call twice and checks what holds of every call. `result` is what it counts. */
+static struct job try_call(enum call call, const uint8_t *bytes, size_t size, size_t lent_size)
+{
+    struct job first = {.call = NOTHING};
+    uint8_t *in = input_end - size;
+    memcpy(in, bytes, size);
+    for (int turn = 0; turn < 2; turn++) {
+        struct job job = {.call = call, .in = in, .in_len = size, .out = lend(lent_size), .out_len = lent_size};
+        if (small_stack)
+            call_on_small_stack(&job);
+        else
+            make_call(&job);
+        check(reply_in_form(&job), "an answer in its form");
+        check(memcmp(in, bytes, size) == 0, "the input is as it was");
+        size_t changed = counted(&job);
+        check(changed <= lent_size, "no more is counted than was lent");
+        if (changed > lent_size)
+            return job;
+        check(kept(job.out, lent_size, changed), "lent memory holds what it held beside what is counted");
+        if (turn == 0)
+            memcpy(result, job.out, changed);
+        else
+            check(same_reply(&first, &job) && memcmp(result, job.out, changed) == 0, "the same answer whatever lent memory held");
+        first = job;
+    }
+    return first;
+}
+
+static int says(const struct job *job, uint32_t refusal, size_t line)
+{
+    return job->said.refusal == refusal && job->said.line == line;
+}
+
+/* ---- sheets: the text and, made apart from it, the lines ---- */
+
+static uint8_t text[ROOM], lines[ROOM];
+static size_t text_size, lines_size;
+
+static void clear(void)
+{
+    text_size = lines_size = 0;
+}
+
+static void raw(const char *bytes)
+{
+    memcpy(text + text_size, bytes, strlen(bytes));
+    text_size += strlen(bytes);
+}
+
+static void add(char letter, const uint32_t *numbers, size_t count)
+{
+    text[text_size++] = (uint8_t)letter;
+    memset(lines + lines_size, 0, FOLLOWUP_LINE_BYTES);
+    followup_put_u32(lines + lines_size, (uint32_t)letter);
+    for (size_t k = 0; k < count; k++) {
+        text_size += (size_t)snprintf((char *)text + text_size, 10, "%9u", (unsigned)numbers[k]);
+        if (k < 7)
+            followup_put_u32(lines + lines_size + 4 * (k + 1), numbers[k]);
+    }
+    text[text_size++] = 10;
+    lines_size += FOLLOWUP_LINE_BYTES;
+}
+
+/* Adds lines given as in "K 1 2;B 1 1 2;H 1 2 3;R 1 7 8". */
+static void sheet(const char *form)
+{
+    while (*form != 0) {
+        uint32_t numbers[8];
+        size_t count = 0;
+        char letter = *form++;
+        while (*form == ' ') {
+            char *end;
+            uint32_t number = (uint32_t)strtoul(form, &end, 10);
+            if (count < 8)
+                numbers[count++] = number;
+            form = end;
+        }
+        add(letter, numbers, count);
+        if (*form == ';')
+            form++;
+    }
+}
+
+/* Adds a line of a kind; its fields are the decimal digits of `fields`. */
+static void digits(char letter, uint32_t kind, const char *fields)
+{
+    uint32_t numbers[7] = {kind};
+    size_t width = strlen(fields);
+    for (size_t k = 0; k < width; k++)
+        numbers[k + 1] = (uint32_t)(fields[k] - '0');
+    add(letter, numbers, width + 1);
+}
+
+static void kinds(uint32_t count, uint32_t width)
+{
+    for (uint32_t kind = 1; kind <= count; kind++)
+        add('K', (uint32_t[]){kind, width}, 2);
+}
+
+/* Rules on kind 1 of width 1 that carry their number over. */
+static void copy_rules(size_t count, size_t heads)
+{
+    for (size_t rule = 0; rule < count; rule++) {
+        sheet("B 1 1");
+        for (size_t head = 0; head < heads; head++)
+            sheet("H 1 1");
+    }
+}
+
+static void rows(size_t count)
+{
+    for (uint32_t row = 0; row < count; row++)
+        add('R', (uint32_t[]){1, row}, 2);
+}
+
+/* ---- steps ---- */
+
+struct record {
+    uint32_t kind;
+    size_t width;
+    uint32_t number[FOLLOWUP_WIDTH_MAX];
+    size_t generation[FOLLOWUP_WIDTH_MAX];
+};
+
+static uint32_t number_at(size_t line, size_t k)
+{
+    return followup_line_number(lines, line, k);
+}
+
+static size_t line_count(void)
+{
+    return lines_size / FOLLOWUP_LINE_BYTES;
+}
+
+/* The place, counted from 0, of the nth line of that letter; line_count() where there is none. */
+static size_t place_of(char letter, size_t nth)
+{
+    for (size_t line = 0; line < line_count(); line++)
+        if (number_at(line, 0) == (uint32_t)letter && --nth == 0)
+            return line;
+    return line_count();
+}
+
+static size_t width_of(uint32_t kind)
+{
+    for (size_t line = 0; line < line_count(); line++)
+        if (number_at(line, 0) == 'K' && number_at(line, 1) == kind)
+            return number_at(line, 2);
+    return 0;
+}
+
+/* The first field, counted from 1, of a line that has the mark; 0 where none has. */
+static size_t field_of(size_t line, uint32_t mark)
+{
+    size_t width = width_of(number_at(line, 1));
+    for (size_t k = 0; k < width; k++)
+        if (number_at(line, 2 + k) == mark)
+            return k + 1;
+    return 0;
+}
+
+static int is_head(size_t line)
+{
+    return line < line_count() && number_at(line, 0) == 'H';
+}
+
+/* Whether a mark of the rule at that line stands in B and in some H. */
+static int carried(size_t body, uint32_t mark)
+{
+    if (field_of(body, mark) == 0)
+        return 0;
+    for (size_t line = body + 1; is_head(line); line++)
+        if (field_of(line, mark) != 0)
+            return 1;
+    return 0;
+}
+
+static int fires(size_t body, const struct record *on)
+{
+    if (number_at(body, 1) != on->kind)
+        return 0;
+    for (size_t k = 0; k < on->width; k++)
+        if (on->number[field_of(body, number_at(body, 2 + k)) - 1] != on->number[k])
+            return 0;
+    return 1;
+}
+
+/* The record that an H line makes. A number is fresh by any name that was not used before: what a rule made earlier is either among
+ * the carried values, and then the number is another one, or not in the record made. */
+static struct record made_by(size_t body, size_t head, const struct record *on)
+{
+    static uint32_t used = FOLLOWUP_NUMBER_MAX;
+    struct record made = {.kind = number_at(head, 1), .width = width_of(number_at(head, 1))};
+    size_t generation = 0;
+    for (size_t k = 0; k < on->width; k++)
+        if (carried(body, number_at(body, 2 + k)) && generation < on->generation[k])
+            generation = on->generation[k];
+    for (size_t k = 0; k < made.width; k++) {
+        uint32_t mark = number_at(head, 2 + k);
+        size_t field = field_of(body, mark);
+        made.number[k] = field != 0 ? on->number[field - 1] : used + mark;
+        made.generation[k] = field != 0 ? on->generation[field - 1] : generation + 1;
+    }
+    used += FOLLOWUP_MARKS_MAX;
+    return made;
+}
+
+/* Whether the numbers of a carried or fresh step are right. */
+static int fields_hold(struct followup_step step, size_t body, size_t head, const struct record *on, const struct record *made)
+{
+    int carries = 0, depends = 0;
+    if (step.fresh > 1 || step.to == 0 || step.to > made->width || step.from > on->width)
+        return 0;
+    int fresh = field_of(body, number_at(head, 1 + step.to)) == 0;
+    if (step.fresh != fresh)
+        return 0;
+    if (!fresh)
+        return step.from != 0 && on->number[step.from - 1] == made->number[step.to - 1];
+    for (size_t k = 0; k < on->width; k++)
+        if (carried(body, number_at(body, 2 + k))) {
+            carries = 1;
+            if (step.from != 0 && on->number[k] == on->number[step.from - 1])
+                depends = 1;
+        }
+    return step.from == 0 ? !carries : depends;
+}
+
+static int reaching(struct followup_step step)
+{
+    return step.from == 0 && step.to == 0 && step.fresh == 0;
+}
+
+/* Fires step k on the record and puts the record made in its place; 0 where the firing doesn't fit or a number of the step is wrong. */
+static int fire(const uint8_t *steps, size_t k, struct record *on)
+{
+    struct followup_step step = followup_step_at(steps, k);
+    size_t body = place_of('B', step.rule), head = body + step.head;
+    if (step.rule == 0 || step.head == 0 || step.head > FOLLOWUP_HEADS_MAX || body == line_count())
+        return 0;
+    for (size_t line = body + 1; line <= head; line++)
+        if (!is_head(line))
+            return 0;
+    if (!fires(body, on))
+        return 0;
+    struct record made = made_by(body, head, on);
+    int good = reaching(step) || fields_hold(step, body, head, on, &made);
+    *on = made;
+    return good;
+}
+
+/* A number for the shape of a record and one of its fields, or 0: the digits to base 8 are the kind, six for the pattern, the field. */
+static uint64_t pair_of(const struct record *record, size_t field)
+{
+    uint64_t pair = record->kind;
+    for (size_t k = 0; k < FOLLOWUP_WIDTH_MAX; k++) {
+        size_t first = 0;
+        while (first < k && record->number[first] != record->number[k])
+            first++;
+        pair = pair * 8 + (k < record->width ? first + 1 : 0);
+    }
+    return pair * 8 + field;
+}
+
+static int among(const uint64_t *pairs, size_t count, uint64_t pair)
+{
+    for (size_t k = 0; k < count; k++)
+        if (pairs[k] == pair)
+            return 1;
+    return 0;
+}
+
+static int start_at(size_t row, struct record *record)
+{
+    size_t line = place_of('R', row);
+    if (row == 0 || line == line_count())
+        return 0;
+    memset(record, 0, sizeof *record);
+    record->kind = number_at(line, 1);
+    record->width = width_of(record->kind);
+    for (size_t k = 0; k < record->width; k++)
+        record->number[k] = number_at(line, 2 + k);
+    return 1;
+}
+
+/* Whether the trail is as it has to be where a sheet settles with a deepest generation above 0. */
+static int trail_holds(const uint8_t *steps, const struct followup_judge_reply *said)
+{
+    struct record record;
+    int line = 0;
+    size_t last = 0;
+    if (!start_at(said->row, &record) || said->turns != 0 || said->trail > 3583)
+        return 0;
+    for (size_t k = 0; k < said->trail; k++) {
+        struct followup_step step = followup_step_at(steps, k);
+        if (line ? step.to == 0 || step.from != last || step.from == 0 : !reaching(step) && !step.fresh)
+            return 0;
+        line = line || step.fresh;
+        last = step.to;
+        if (!fire(steps, k, &record))
+            return 0;
+    }
+    return line && record.generation[last - 1] == said->deepest;
+}
+
+/* Whether the loop, from its first record on, is as it has to be. */
+static int loop_holds(const uint8_t *steps, const struct followup_judge_reply *said, struct record record)
+{
+    static uint64_t met[FOLLOWUP_STEPS];
+    int fresh = 0;
+    size_t first = followup_step_at(steps, said->trail).from, at = first;
+    if (said->turns == 0 || said->trail + said->turns > FOLLOWUP_STEPS)
+        return 0;
+    for (size_t k = 0; k < said->turns; k++) {
+        struct followup_step step = followup_step_at(steps, said->trail + k);
+        met[k] = pair_of(&record, at);
+        if (step.from == 0 || step.to == 0 || step.from != at || among(met, k, met[k]) || !fire(steps, said->trail + k, &record))
+            return 0;
+        fresh = fresh || step.fresh;
+        at = step.to;
+    }
+    if (!fresh || pair_of(&record, at) != met[0])
+        return 0;
+    for (size_t k = 0; k < 2 * said->turns; k++)
+        if (!fire(steps, said->trail + k % said->turns, &record))
+            return 0;
+    return record.generation[at - 1] >= 3;
+}
+
+/* Whether trail and loop are as they have to be where a sheet is endless. */
+static int endless_holds(const uint8_t *steps, const struct followup_judge_reply *said)
+{
+    uint64_t met[FOLLOWUP_SHAPES_MAX];
+    struct record record;
+    if (!start_at(said->row, &record) || said->deepest != 0 || said->trail >= FOLLOWUP_SHAPES_MAX)
+        return 0;
+    for (size_t k = 0; k < said->trail; k++) {
+        met[k] = pair_of(&record, 0);
+        if (!reaching(followup_step_at(steps, k)) || !fire(steps, k, &record) || among(met, k + 1, pair_of(&record, 0)))
+            return 0;
+    }
+    return loop_holds(steps, said, record);
+}
+
+/* Whether row, trail, loop and steps of a good answer are as document 01 says, for the sheet in `lines`. */
+static int steps_hold(const uint8_t *steps, const struct followup_judge_reply *said)
+{
+    if (said->verdict == FOLLOWUP_ENDLESS)
+        return endless_holds(steps, said);
+    if (said->verdict != FOLLOWUP_SETTLES)
+        return 0;
+    if (said->deepest != 0)
+        return trail_holds(steps, said);
+    return said->row == 0 && said->trail == 0 && said->turns == 0;
+}
+
+/* ---- what is tried ---- */
+
+/* Reads the sheet's text and writes its lines. */
+static void try_both_ways(void)
+{
+    struct job job = try_call(READ, text, text_size, lines_size + below(100));
+    check(says(&job, 0, 0) && job.count == line_count(), "the lines are counted");
+    check(memcmp(result, lines, lines_size) == 0, "the lines are those of the text");
+    job = try_call(WRITE, lines, lines_size, text_size + below(100));
+    check(says(&job, 0, 0) && job.count == text_size, "the bytes are counted");
+    check(memcmp(result, text, text_size) == 0, "the text is that of the lines");
+}
+
+static struct followup_judge_reply try_judge(void)
+{
+    struct job job = try_call(JUDGE, lines, lines_size, FOLLOWUP_STEPS_BYTES + below(100));
+    if (job.said.refusal == 0) {
+        check(job.said.shapes <= FOLLOWUP_SHAPES_MAX && job.said.fired <= FOLLOWUP_RULES_MAX && job.said.share <= 100, "figures in their range");
+        check(steps_hold(result, &job.said), "row, trail, loop and steps are as document 01 says");
+    }
+    return job.said;
+}
+
+/* Judges the sheet; the figures are verdict, deepest, shapes, fired, share, row, trail, loop. */
+static void judges_as(const char *name, const size_t *want)
+{
+    subject = name;
+    struct followup_judge_reply said = try_judge();
+    size_t got[8] = {said.verdict, said.deepest, said.shapes, said.fired, said.share, said.row, said.trail, said.turns};
+    check(said.refusal == 0, "not refused");
+    for (size_t k = 0; k < 8; k++)
+        check(want[k] == ANY || want[k] == got[k], "the figures");
+}
+
+static void judge_refuses(const char *name, uint32_t refusal, size_t line)
+{
+    subject = name;
+    struct job job = try_call(JUDGE, lines, lines_size, FOLLOWUP_STEPS_BYTES);
+    check(says(&job, refusal, line), "judging is refused");
+}
+
+static void write_refuses(const char *name, size_t lent_size, uint32_t refusal, size_t line)
+{
+    subject = name;
+    struct job job = try_call(WRITE, lines, lines_size, lent_size);
+    check(says(&job, refusal, line), "writing is refused");
+}
+
+static void read_refuses(const char *name, size_t lent_size, uint32_t refusal, size_t line)
+{
+    subject = name;
+    struct job job = try_call(READ, text, text_size, lent_size);
+    check(says(&job, refusal, line), "reading is refused");
+}
+
+static void try_header(void)
+{
+    begin_group("numbers and steps out of bytes");
+    uint8_t bytes[32] = {1, 2, 3, 4, 255, 254, 253, 252};
+    check(followup_u16(bytes) == 0x0201 && followup_u16(bytes + 1) == 0x0302 && followup_u16(bytes + 4) == 0xfeff, "u16");
+    check(followup_u32(bytes) == 0x04030201u && followup_u32(bytes + 4) == 0xfcfdfeffu && followup_u32(bytes + 1) == 0xff040302u, "u32");
+    followup_put_u32(bytes + 9, 0xfcfdfeffu);
+    check(memcmp(bytes + 9, bytes + 4, 4) == 0 && bytes[8] == 0 && bytes[13] == 0, "put");
+    uint8_t steps[20] = {0, 0, 0, 0, 0, 0, 0, 0, 0, 0, 0, 1, 4, 0, 5, 0, 6, 0, 1, 0};
+    struct followup_step step = followup_step_at(steps, 1);
+    check(step.rule == 256 && step.head == 4 && step.from == 5 && step.to == 6 && step.fresh == 1, "step");
+    check(FOLLOWUP_TEXT_LINES_BYTES == 52416 && FOLLOWUP_SHEET_LINES_BYTES == 75776 && FOLLOWUP_STEPS_BYTES == 40960, "sizes");
+    end_group();
+}
+
+static void try_example(void)
+{
+    static const uint32_t want[4][8] = {{'K', 1, 2}, {'B', 1, 1, 2}, {'H', 1, 2, 3}, {'R', 1, 7, 8}};
+    static const size_t figures[8] = {2, 0, 1, 1, 100, 1, 0, 1};
+    static const uint8_t one_step[10] = {1, 0, 1, 0, 2, 0, 2, 0, 1, 0};
+    begin_group("document 01's example");
+    clear();
+    raw("K        1        2\nB        1        1        2\nH        1        2        3\nR        1        7        8\n");
+    struct job job = try_call(READ, text, text_size, FOLLOWUP_TEXT_LINES_BYTES);
+    check(says(&job, 0, 0) && job.count == 4, "four lines");
+    for (size_t line = 0; line < 4; line++)
+        for (size_t k = 0; k < 8; k++)
+            check(followup_line_number(result, line, k) == want[line][k], "a number of a line");
+    clear();
+    sheet("K 1 2;B 1 1 2;H 1 2 3;R 1 7 8");
+    try_both_ways();
+    judges_as("the example", figures);
+    check(memcmp(result, one_step, 10) == 0, "the one step");
+    end_group();
+}
+
+static const struct {
+    const char *name, *form;
+    size_t figures[8];
+} to_try[] = {
+    {"empty text", "", {1, 0, 0, 0, 0, 0, 0, 0}},
+    {"the example without its row", "K 1 2;B 1 1 2;H 1 2 3", {1, 0, 0, 0, 0, 0, 0, 0}},
+    {"P(1)->P(2), row 5", "K 1 1;B 1 1;H 1 2;R 1 5", {1, 1, 1, 1, 100, 1, 1, 0}},
+    {"P(1,2)->P(1,3), row 7 8", "K 1 2;B 1 1 2;H 1 1 3;R 1 7 8", {1, 1, 1, 1, 100, 1, ANY, 0}},
+    {"P(1,2)->P(3,1), row 7 7", "K 1 2;B 1 1 2;H 1 3 1;R 1 7 7", {2, 0, 2, 1, 100, 1, 1, 1}},
+    {"P(1,1)->P(2,1), row 7 8", "K 1 2;B 1 1 1;H 1 2 1;R 1 7 8", {1, 0, 1, 0, 0, 0, 0, 0}},
+    {"P(1,1)->P(2,1), row 7 7", "K 1 2;B 1 1 1;H 1 2 1;R 1 7 7", {1, 1, 2, 1, 100, 1, 1, 0}},
+    {"002, example 4.3", "K 1 4;K 2 2;B 1 1 2 1 3;H 2 1 4;B 2 1 2;H 1 1 1 2 2;R 1 5 6 5 7", {1, 1, 3, 2, 100, 1, ANY, 0}},
+    {"P(1)->Q(1,2), Q(1,2)->P(2), row P 5", "K 1 1;K 2 2;B 1 1;H 2 1 2;B 2 1 2;H 1 2;R 1 5", {2, 0, 2, 2, 100, 1, ANY, 2}},
+    {"P(1)->Q(2), Q(1)->T(1,2), row P 5", "K 1 1;K 2 1;K 3 2;B 1 1;H 2 2;B 2 1;H 3 1 2;R 1 5", {1, 2, 3, 2, 100, 1, 2, 0}},
+    {"one rule of eight fired",
+     "K 1 1;K 2 1;B 1 1;H 1 1;B 2 1;H 2 1;B 2 1;H 2 1;B 2 1;H 2 1;B 2 1;H 2 1;B 2 1;H 2 1;B 2 1;H 2 1;B 2 1;H 2 1;R 1 5",
+     {1, 0, 1, 1, 13, 0, 0, 0}},
+    {"the second row starts it", "K 1 1;K 2 1;B 2 1;H 2 2;R 1 5;R 2 5", {1, 1, 2, 1, 100, 2, 1, 0}},
+    {"widths 1 to 6, largest numbers",
+     "K 1 1;K 2 2;K 3 3;K 4 4;K 5 5;K 64 6;B 64 1 2 3 4 5 6;H 64 7 8 9 10 11 12;H 1 1;H 2 1 2;H 3 1 2 3;R 64 0 99999999 2 3 4 5",
+     {2, 0, 4, 1, 100, 1, 0, 1}},
+};
+
+static void try_sheets(void)
+{
+    begin_group(small_stack ? "sheets to try, on a small stack" : "sheets to try");
+    for (size_t k = 0; k < sizeof to_try / sizeof to_try[0]; k++) {
+        clear();
+        sheet(to_try[k].form);
+        judges_as(to_try[k].name, to_try[k].figures);
+        try_both_ways();
+    }
+    end_group();
+}
+
+/* Texts that reading refuses: lines in short form, then bytes as they stand. */
+static const struct {
+    const char *form, *rest;
+    uint32_t refusal;
+    size_t line;
+} refused[] = {
+    {"K 1 2;R 1 7 8", "R        1        7        8", 2, 3},
+    {"", "K        1        2", 2, 1},
+    {"K 1 1", "\n", 2, 2},
+    {"K 1 1", "R        1       07\n", 2, 2},
+    {"K 1 1", "R        1 00000000\n", 2, 2},
+    {"K 1 1", "R        1123456789\n", 2, 2},
+    {"K 1 1", "R        1      7 \n", 2, 2},
+    {"K 1 1", "R        1         \n", 2, 2},
+    {"K 1 1", "R        1       -7\n", 2, 2},
+    {"K 1 1", "R        1\t       7\n", 2, 2},
+    {"K 1 1", "R        1        7\r\n", 2, 2},
+    {"K 1 1", "k        2        1\n", 2, 2},
+    {"K 1 1", "\xff        2        1\n", 2, 2},
+    {"K 1", "", 2, 1},
+    {"K 1 1 1", "", 2, 1},
+    {"K 1 1;B 1", "", 2, 2},
+    {"K 1 1;R 1 1 2 3 4 5 6 7", "", 2, 2},
+    {"H 1", "", 2, 1},
+    {"K 1 1;R 1 5;K 2 1", "", 3, 3},
+    {"K 1 1;B 1 1;H 1 1;K 2 1", "", 3, 4},
+    {"H 1 1", "", 3, 1},
+    {"K 1 1;R 1 1;H 1 1", "", 3, 3},
+    {"K 1 1;R 1 1;B 1 1", "", 3, 3},
+    {"K 1 1;B 1 1;B 1 1", "", 3, 3},
+    {"K 1 1;B 1 1;R 1 1", "", 3, 3},
+    {"K 1 1;B 1 1", "", 3, 3},
+    {"K 1 1;H 9 1", "", 3, 2},
+    {"K 0 1", "", 4, 1},
+    {"K 65 1", "", 4, 1},
+    {"K 1 1;K 1 1", "", 4, 2},
+    {"K 2 1;K 1 1", "", 4, 2},
+    {"K 1 0", "", 4, 1},
+    {"K 1 7", "", 4, 1},
+    {"K 1 1;R 2 5", "", 4, 2},
+    {"K 1 1;R 99999999 5", "", 4, 2},
+    {"K 1 1;R 1 5 6", "", 4, 2},
+    {"K 1 2;B 1 1", "", 4, 2},
+    {"K 1 2", "R        1        5\n", 4, 2},
+    {"K 1 1;B 2 5", "", 4, 2},
+    {"K 1 1;B 1 2", "", 5, 2},
+    {"K 1 1;B 1 0", "", 5, 2},
+    {"K 1 2;B 1 1 3", "", 5, 2},
+    {"K 1 2;B 1 1 1;H 1 1 3", "", 5, 3},
+    {"K 1 2;B 1 1 2;H 1 3 4;B 1 5 5", "", 5, 4},
+    {"K 1 6;B 1 1 2 3 4 5 6;H 1 7 8 9 10 11 12;H 1 13 1 1 1 1 1", "", 5, 4},
+    {"K 1 1;B 1 1;H 1 1;H 1 1;H 1 1;H 1 1;H 1 9", "", 5, 7},
+    {"K 1 1;B 1 1;H 1 1;H 1 1;H 1 1;H 1 1;H 1 1", "", 6, 7},
+};
+
+static void try_reading(void)
+{
+    begin_group("refusals of reading");
+    for (size_t k = 0; k < sizeof refused / sizeof refused[0]; k++) {
+        clear();
+        sheet(refused[k].form);
+        raw(refused[k].rest);
+        read_refuses(refused[k].form, FOLLOWUP_TEXT_LINES_BYTES, refused[k].refusal, refused[k].line);
+        read_refuses(refused[k].form, 0, refused[k].refusal, refused[k].line);
+    }
+    clear();
+    sheet("K 1 1");
+    copy_rules(257, 1);
+    read_refuses("257 rules", FOLLOWUP_TEXT_LINES_BYTES, 6, 514);
+    clear();
+    sheet("K 1 1");
+    rows(1025);
+    read_refuses("1,025 rows", FOLLOWUP_TEXT_LINES_BYTES, 6, 1026);
+    clear();
+    sheet("K 1 2;B 1 1 2;H 1 2 3;R 1 7 8");
+    for (size_t size = 0; size < 4 * FOLLOWUP_LINE_BYTES; size++)
+        read_refuses("fewer lines lent than there are", size, 7, size / FOLLOWUP_LINE_BYTES + 1);
+    raw("x");
+    read_refuses("2 before 7", 0, 2, 5);
+    end_group();
+}
+
+/* A sheet of 32,768 bytes. */
+static void longest_text(void)
+{
+    clear();
+    sheet("K 1 6;K 2 2");
+    for (size_t row = 0; row < 487; row++)
+        sheet("R 1 1 2 3 4 5 6");
+    for (size_t row = 0; row < 37; row++)
+        sheet("R 2 1 99999999");
+}
+
+/* A sheet of 1,638 lines, the most that a text can have. */
+static void most_lines(void)
+{
+    clear();
+    kinds(64, 1);
+    copy_rules(38, 2);
+    copy_rules(218, 1);
+    rows(1024);
+}
+
+static void try_text_limits(void)
+{
+    begin_group("limits of the text");
+    subject = "32,768 bytes";
+    longest_text();
+    check(text_size == FOLLOWUP_TEXT_MAX, "the size");
+    try_both_ways();
+    try_judge();
+    write_refuses("lent text too short", FOLLOWUP_TEXT_MAX - 1, 9, 0);
+    write_refuses("no text lent", 0, 9, 0);
+    raw("R");
+    read_refuses("32,769 bytes", FOLLOWUP_TEXT_LINES_BYTES, 1, 0);
+    read_refuses("1 before 7", 0, 1, 0);
+    subject = "a million bytes of text";
+    struct job job = try_call(READ, text, MILLION, FOLLOWUP_TEXT_LINES_BYTES);
+    check(says(&job, 1, 0), "reading is refused");
+    subject = "1,638 lines";
+    most_lines();
+    check(line_count() == FOLLOWUP_TEXT_LINES && text_size <= FOLLOWUP_TEXT_MAX, "the size");
+    try_both_ways();
+    read_refuses("1,637 lines lent", FOLLOWUP_TEXT_LINES_BYTES - 1, 7, FOLLOWUP_TEXT_LINES);
+    subject = "a million bytes of lines lent";
+    job = try_call(READ, text, text_size, MILLION);
+    check(says(&job, 0, 0) && memcmp(result, lines, lines_size) == 0, "the lines are those of the text");
+    sheet("R 1 5");
+    write_refuses("a row too many, before 1", 0, 8, FOLLOWUP_TEXT_LINES + 1);
+    end_group();
+}
+
+/* Lent lines that are no sheet: numbers of one line after "K 1 2;B 1 1 2;H 1 2 3". */
+static const uint32_t wrong_lines[][8] = {
+    {'R', 1, 7, 100000000}, {'R', 1, 7, UINT32_MAX},    {'R', 1, 7, 8, 1},       {'R', 1, 7, 8, 0, 0, 0, 1}, {'R' + 256, 1, 7, 8},
+    {0, 1, 7, 8},           {0},                        {'r', 1, 7, 8},          {'R', 2, 7, 8},             {'R', 0, 7, 8},
+    {'R', UINT32_MAX, 7},   {'K', 2, 1},                {'H', 1, 1, 4 + 1},      {'H', 1, 0, 1},             {'H', 1, 1, 13},
+    {'B', 1, 2, 1},         {'B', 1, 1, 1, 1},          {'H', 1, UINT32_MAX, 1}, {'X', 1, 1, 1},             {'R', 65, 1, 1},
+    {'R', 257, 7, 8},       {'R', 0x80000001u, 7, 8}};
+
+static void try_lent_lines(void)
+{
+    begin_group("refusals of lent lines");
+    for (size_t k = 0; k < sizeof wrong_lines / sizeof wrong_lines[0]; k++) {
+        clear();
+        sheet("K 1 2;B 1 1 2;H 1 2 3");
+        for (size_t n = 0; n < 8; n++)
+            followup_put_u32(lines + lines_size + 4 * n, wrong_lines[k][n]);
+        lines_size += FOLLOWUP_LINE_BYTES;
+        write_refuses("a wrong fourth line", FOLLOWUP_TEXT_MAX, 8, 4);
+        write_refuses("8 before 9", 0, 8, 4);
+        judge_refuses("a wrong fourth line", 8, 4);
+    }
+    for (size_t k = 0; k < sizeof refused / sizeof refused[0]; k++) {
+        if (refused[k].refusal == 2 || refused[k].rest[0] != 0)
+            continue;
+        clear();
+        sheet(refused[k].form);
+        write_refuses(refused[k].form, FOLLOWUP_TEXT_MAX, 8, refused[k].line);
+        judge_refuses(refused[k].form, 8, refused[k].line);
+    }
+    clear();
+    sheet("K 1 2;B 1 1 2;H 1 2 3;R 1 7 8;R 1 9 9");
+    write_refuses("lent text one byte short", text_size - 1, 9, 0);
+    end_group();
+}
+
+/* A sheet of 2,368 lines: 64 kinds, 256 rules of five lines, 1,024 rows. */
+static void largest_sheet(void)
+{
+    clear();
+    kinds(64, 6);
+    for (uint32_t rule = 0; rule < 256; rule++) {
+        digits('B', rule % 64 + 1, "123456");
+        for (uint32_t head = 0; head < 4; head++)
+            digits('H', (rule + head) % 64 + 1, head == 0 ? "123456" : "234561");
+    }
+    for (uint32_t row = 0; row < 1024; row++)
+        digits('R', row % 64 + 1, row % 2 ? "123456" : "123455");
+}
+
+static void try_line_limits(void)
+{
+    begin_group(small_stack ? "limits of lent lines, on a small stack" : "limits of lent lines");
+    subject = "2,368 lines";
+    largest_sheet();
+    check(lines_size == FOLLOWUP_SHEET_LINES_BYTES, "the size");
+    struct followup_judge_reply said = try_judge();
+    check(said.refusal == 0 && said.verdict == 1 && said.deepest == 0 && said.fired == 256, "the figures");
+    write_refuses("its text is too long, before 9", 0, 1, 0);
+    write_refuses("its text is too long", FOLLOWUP_TEXT_MAX, 1, 0);
+    digits('R', 1, "123456");
+    write_refuses("2,369 lines", FOLLOWUP_TEXT_MAX, 8, 2369);
+    judge_refuses("2,369 lines", 8, 2369);
+    for (; lines_size < MILLION; lines_size += FOLLOWUP_LINE_BYTES)
+        memcpy(lines + lines_size, lines + lines_size - FOLLOWUP_LINE_BYTES, FOLLOWUP_LINE_BYTES);
+    write_refuses("a million bytes of lines", FOLLOWUP_TEXT_MAX, 8, 2369);
+    judge_refuses("a million bytes of lines", 8, 2369);
+    clear();
+    lines_size = MILLION;
+    fill(lines, lines_size);
+    write_refuses("a million bytes of noise", FOLLOWUP_TEXT_MAX, 8, 1);
+    judge_refuses("a million bytes of noise", 8, 1);
+    memset(lines, 0, lines_size);
+    judge_refuses("a million zeros", 8, 1);
+    end_group();
+}
+
+static void try_odd_lengths(void)
+{
+    begin_group("odd lengths");
+    clear();
+    sheet("K 1 2;B 1 1 2;H 1 2 3;R 1 7 8;R 1 9 9");
+    size_t whole = 4 * FOLLOWUP_LINE_BYTES;
+    for (size_t more = 0; more < FOLLOWUP_LINE_BYTES; more++) {
+        size_t lines_len = whole + more;
+        struct job job = try_call(WRITE, lines, lines_len, 200);
+        check(more < 4 ? says(&job, 0, 0) && job.count == 107 : says(&job, 8, 5), "writing leaves a part of a number out, refuses a part of a line");
+        job = try_call(JUDGE, lines, lines_len, FOLLOWUP_STEPS_BYTES);
+        check(more < 4 ? says(&job, 0, 0) && job.said.turns == 1 : says(&job, 8, 5), "and so does judging");
+        job = try_call(READ, text, 107, lines_len);
+        check(says(&job, 0, 0) && job.count == 4, "reading leaves a part of a line alone");
+    }
+    for (size_t size = FOLLOWUP_STEPS_BYTES - 3; size < FOLLOWUP_STEPS_BYTES + 12; size++) {
+        struct job job = try_call(JUDGE, lines, whole, size);
+        check(size < FOLLOWUP_STEPS_BYTES ? says(&job, 12, 0) : says(&job, 0, 0), "4,096 steps, and fewer");
+    }
+    struct job job = try_call(JUDGE, lines, whole, MILLION);
+    check(says(&job, 0, 0), "a million bytes of steps");
+    job = try_call(JUDGE, lines, whole - 4, FOLLOWUP_STEPS_BYTES - 2);
+    check(says(&job, 12, 0), "12 before 8");
+    end_group();
+}
+
+/* Lengths of 0, at pointers that cannot be followed. */
+static void try_nothing(void)
+{
+    begin_group("length 0");
+    uint8_t *nowhere[2] = {(uint8_t *)1, input_end};
+    for (size_t k = 0; k < 2; k++) {
+        struct followup_reply reply = followup_read(nowhere[k], 0, nowhere[k], 0);
+        check(reply.refusal == 0 && reply.line == 0 && reply.count == 0, "reading");
+        reply = followup_write(nowhere[k], 0, nowhere[k], 0);
+        check(reply.refusal == 0 && reply.line == 0 && reply.count == 0, "writing");
+        reply = followup_pattern(nowhere[k], 0);
+        check(reply.refusal == 10 && reply.line == 0 && reply.count == 0, "pattern");
+        struct followup_judge_reply said = followup_judge(nowhere[k], 0, nowhere[k], 0);
+        check(said.refusal == 12 && said.line == 0 && said.verdict == 0, "judging without steps");
+    }
+    for (size_t size = 0; size < 4; size++) {
+        struct job job = try_call(WRITE, (const uint8_t *)"abc", size, size);
+        check(says(&job, 0, 0) && job.count == 0, "no whole number is no line, writing");
+        job = try_call(JUDGE, (const uint8_t *)"abc", size, FOLLOWUP_STEPS_BYTES);
+        check(says(&job, 0, 0) && job.said.verdict == 1 && job.said.shapes == 0, "no whole number is no line, judging");
+        job = try_call(READ, (const uint8_t *)"", 0, size);
+        check(says(&job, 0, 0) && job.count == 0, "reading no text");
+    }
+    end_group();
+}
+
+/* The next pattern of that width by ascending digits; 0 where there is none. */
+static int next_pattern(uint32_t *pattern, size_t width)
+{
+    for (size_t k = width; k-- > 1;) {
+        uint32_t top = 0;
+        for (size_t i = 0; i < k; i++)
+            top = top < pattern[i] ? pattern[i] : top;
+        if (pattern[k] <= top) {
+            pattern[k]++;
+            return 1;
+        }
+        pattern[k] = 1;
+    }
+    return 0;
+}
+
+/* Asks for the pattern of fields that are equal where its digits are, also with a part of one more number. */
+static void try_pattern(const uint32_t *pattern, size_t width, size_t number)
+{
+    uint8_t fields[28];
+    uint32_t base = (uint32_t)draw(), step = (uint32_t)draw() | 1;
+    fill(fields, sizeof fields);
+    for (size_t k = 0; k < width; k++)
+        followup_put_u32(fields + 4 * k, base + step * pattern[k]);
+    struct job job = try_call(PATTERN, fields, 4 * width + below(4), 0);
+    check(says(&job, 0, 0) && job.count == number, "the number of a pattern");
+}
+
+static void try_patterns(void)
+{
+    size_t number = 0;
+    begin_group("patterns");
+    for (size_t width = 1; width <= FOLLOWUP_WIDTH_MAX; width++) {
+        uint32_t pattern[FOLLOWUP_WIDTH_MAX] = {1, 1, 1, 1, 1, 1};
+        do
+            try_pattern(pattern, width, ++number);
+        while (next_pattern(pattern, width));
+    }
+    check(number == FOLLOWUP_PATTERNS, "278 patterns");
+    try_pattern((uint32_t[]){1, 1}, 2, 2);
+    try_pattern((uint32_t[]){7, 4, 7, 9}, 4, 16);
+    for (size_t size = 0; size < 100; size++) {
+        struct job job = try_call(PATTERN, text, size, 0);
+        check((job.said.refusal == 10) == (size < 4 || size >= 28), "10 where there is no field, or more than six");
+    }
+    struct job job = try_call(PATTERN, text, MILLION, 0);
+    check(says(&job, 10, 0), "a million bytes of fields");
+    end_group();
+}
+
+/* Rules that lead from kind to kind and, where `closed`, back to the first; each makes fresh numbers that depend on field 1. */
+static void chain(uint32_t count, int closed)
+{
+    clear();
+    kinds(count, 4);
+    for (uint32_t kind = 1; kind < count + (closed ? 1 : 0); kind++) {
+        digits('B', kind, "1234");
+        digits('H', kind % count + 1, "5671");
+    }
+    digits('R', 1, "1234");
+}
+
+/* Rows of so many shapes, 15 patterns for each kind of width 4. */
+static void rows_of_shapes(size_t count)
+{
+    size_t number = 0;
+    clear();
+    kinds((uint32_t)(count + 14) / 15, 4);
+    for (uint32_t kind = 1; number < count; kind++) {
+        uint32_t row[5] = {kind, 1, 1, 1, 1};
+        do {
+            add('R', row, 5);
+            number++;
+        } while (number < count && next_pattern(row + 1, 4));
+    }
+}
+
+/* 511 shapes: 15 patterns in kind 1, copied from kind to kind up to 34; the last rule makes a fresh number in kind 35. */
+static void copied_shapes(void)
+{
+    uint32_t row[5] = {1, 1, 1, 1, 1};
+    clear();
+    kinds(35, 4);
+    for (uint32_t kind = 1; kind < 34; kind++) {
+        digits('B', kind, "1234");
+        digits('H', kind + 1, "1234");
+    }
+    sheet("B 34 1 1 1 1;H 35 2 2 2 2");
+    do
+        add('R', row, 5);
+    while (next_pattern(row + 1, 4));
+}
+
+static void try_deep(void)
+{
+    begin_group(small_stack ? "deep sheets, on a small stack" : "deep sheets");
+    chain(64, 0);
+    judges_as("a chain of 64 kinds", (size_t[]){1, 63, 64, 63, 100, 1, 63, 0});
+    try_both_ways();
+    chain(60, 1);
+    judges_as("a loop through 60 kinds", (size_t[]){2, 0, 60, 60, 100, 1, ANY, 60});
+    try_both_ways();
+    rows_of_shapes(512);
+    judges_as("512 shapes", (size_t[]){1, 0, 512, 0, 0, 0, 0, 0});
+    rows_of_shapes(513);
+    judge_refuses("513 shapes", 11, 0);
+    copied_shapes();
+    judges_as("511 shapes by rules", (size_t[]){1, 1, 511, 34, 100, 1, 34, 0});
+    clear();
+    sheet("K 1 1");
+    copy_rules(256, 4);
+    rows(1024);
+    judges_as("256 rules", (size_t[]){1, 0, 1, 256, 100, 0, 0, 0});
+    most_lines();
+    subject = "1,638 lines";
+    try_both_ways();
+    try_judge();
+    longest_text();
+    subject = "32,768 bytes";
+    try_both_ways();
+    end_group();
+}
+
+static void try_small_stack(void)
+{
+    struct job job = {.call = NOTHING};
+    small_stack = 1;
+    call_on_small_stack(&job);
+    try_sheets();
+    try_deep();
+    try_line_limits();
+    small_stack = 0;
+    begin_group("stack");
+    for (size_t call = 0; call < CALLS; call++)
+        check(stack_used[call] < FOLLOWUP_STACK, "there is some left");
+    snprintf(note, sizeof note, " (bytes used: %zu by a thread that calls nothing, %zu with reading, %zu with writing, %zu with judging)",
+             stack_used[NOTHING], stack_used[READ], stack_used[WRITE], stack_used[JUDGE]);
+    end_group();
+}
+
+/* ---- threads at once ---- */
+
+#define THREADS 8
+
+static struct {
+    struct job job, alone; /* the call, and what it answers while nobody else calls */
+    uint8_t lines[8192], steps[FOLLOWUP_STEPS_BYTES], steps_alone[FOLLOWUP_STEPS_BYTES];
+    unsigned differ;
+} at_once[THREADS];
+
+static pthread_barrier_t all_there;
+
+static void *call_often(void *arg)
+{
+    size_t k = *(const size_t *)arg;
+    pthread_barrier_wait(&all_there);
+    for (int turn = 0; turn < 1000; turn++) {
+        make_call(&at_once[k].job);
+        if (!same_reply(&at_once[k].job, &at_once[k].alone) || memcmp(at_once[k].steps, at_once[k].steps_alone, counted(&at_once[k].alone)) != 0)
+            at_once[k].differ++;
+    }
+    return NULL;
+}
+
+/* Each thread judges another sheet. */
+static void prepare_threads(void)
+{
+    for (uint32_t k = 0; k < THREADS; k++) {
+        chain(20 + 5 * k, k % 2);
+        at_once[k].alone = try_call(JUDGE, lines, lines_size, FOLLOWUP_STEPS_BYTES);
+        memcpy(at_once[k].steps_alone, result, counted(&at_once[k].alone));
+        memcpy(at_once[k].lines, lines, lines_size);
+        at_once[k].job = (struct job){
+            .call = JUDGE, .in = at_once[k].lines, .in_len = lines_size, .out = at_once[k].steps, .out_len = FOLLOWUP_STEPS_BYTES};
+    }
+}
+
+static void try_threads(void)
+{
+    pthread_attr_t attr;
+    pthread_t threads[THREADS];
+    size_t number[THREADS];
+    begin_group("threads at once");
+    prepare_threads();
+    if (pthread_attr_init(&attr) != 0 || pthread_attr_setstacksize(&attr, FOLLOWUP_STACK) != 0)
+        stop("pthread_attr_setstacksize");
+    if (pthread_barrier_init(&all_there, NULL, THREADS) != 0)
+        stop("pthread_barrier_init");
+    for (size_t k = 0; k < THREADS; k++) {
+        number[k] = k;
+        if (pthread_create(&threads[k], &attr, call_often, &number[k]) != 0)
+            stop("pthread_create");
+    }
+    for (size_t k = 0; k < THREADS; k++) {
+        if (pthread_join(threads[k], NULL) != 0)
+            stop("pthread_join");
+        check(at_once[k].differ == 0, "each call answers as it does alone");
+    }
+    pthread_barrier_destroy(&all_there);
+    pthread_attr_destroy(&attr);
+    end_group();
+}
+
+/* ---- noise ---- */
+
+/* Adds a line whose marks are right: a new one is one more than the largest so far. */
+static void random_marks(char letter, const uint32_t *kind_width, uint32_t *top)
+{
+    uint32_t numbers[7] = {kind_width[0]};
+    for (size_t k = 1; k <= kind_width[1]; k++) {
+        uint32_t most = *top < FOLLOWUP_MARKS_MAX ? *top + 1 : *top;
+        numbers[k] = (uint32_t)below(most) + 1;
+        *top = numbers[k] > *top ? numbers[k] : *top;
+    }
+    add(letter, numbers, kind_width[1] + 1);
+}
+
+static void random_sheet(void)
+{
+    uint32_t kind[4][2], last = 0;
+    size_t kind_count = 1 + below(4), rule_count = below(7), row_count = below(5), most = below(8) ? 3 : 6;
+    clear();
+    for (size_t k = 0; k < kind_count; k++) {
+        kind[k][0] = last += 1 + (uint32_t)below(16);
+        kind[k][1] = 1 + (uint32_t)below(most);
+        add('K', kind[k], 2);
+    }
+    for (size_t rule = 0; rule < rule_count; rule++) {
+        uint32_t top = 0;
+        random_marks('B', kind[below(kind_count)], &top);
+        for (size_t head = 1 + below(4); head > 0; head--)
+            random_marks('H', kind[below(kind_count)], &top);
+    }
+    for (size_t row = 0; row < row_count; row++) {
+        const uint32_t *of = kind[below(kind_count)];
+        uint32_t numbers[7] = {of[0]};
+        for (size_t k = 1; k <= of[1]; k++)
+            numbers[k] = (uint32_t)below(4);
+        add('R', numbers, of[1] + 1);
+    }
+}
+
+static void try_random_sheets(void)
+{
+    size_t total = 0, good = 0, endless = 0, deep = 0;
+    begin_group("random sheets");
+    while (total < MILLION) {
+        random_sheet();
+        total += text_size;
+        try_both_ways();
+        struct followup_judge_reply said = try_judge();
+        check(said.refusal == 0 || says(&(struct job){.said = said}, 11, 0), "judged, or 11");
+        good += said.refusal == 0;
+        endless += said.verdict == FOLLOWUP_ENDLESS;
+        deep += said.deepest > 1;
+    }
+    check(good > 0 && endless > 0 && deep > 0, "sheets of each sort");
+    snprintf(note, sizeof note, " (%zu judged, %zu endless, %zu deeper than 1)", good, endless, deep);
+    end_group();
+}
+
+static void try_random_texts(void)
+{
+    static const char letters[] = "KBHR 0123456789\n        \n";
+    begin_group("noise as text");
+    for (size_t total = 0; total < MILLION; total += text_size) {
+        clear();
+        text_size = 1 + below(below(4) ? 300 : 33000);
+        fill(text, text_size);
+        if (below(2))
+            for (size_t k = 0; k < text_size; k++)
+                text[k] = (uint8_t)letters[text[k] % (sizeof letters - 1)];
+        struct job job = try_call(READ, text, text_size, below(5000));
+        check(text_size > FOLLOWUP_TEXT_MAX ? says(&job, 1, 0) : job.said.refusal == 2 && job.said.line > 0, "noise is refused");
+    }
+    end_group();
+}
+
+/* What writing and judging say of the same lent lines. */
+static void try_lines_with_writing(void)
+{
+    struct job wrote = try_call(WRITE, lines, lines_size, FOLLOWUP_TEXT_MAX);
+    if (wrote.said.refusal == 0) {
+        text_size = wrote.count;
+        memcpy(text, result, text_size);
+        lines_size -= lines_size % 4;
+        try_both_ways();
+    }
+    struct job judged = try_call(JUDGE, lines, lines_size, FOLLOWUP_STEPS_BYTES);
+    if (wrote.said.refusal == 8)
+        check(says(&judged, 8, wrote.said.line), "judging refuses the line that writing refuses");
+    else
+        check(says(&judged, 11, 0) || (judged.said.refusal == 0 && steps_hold(result, &judged.said)), "lines that writing takes are judged");
+}
+
+static void try_random_lines(void)
+{
+    begin_group("noise as lent lines");
+    for (size_t total = 0; total < MILLION; total += lines_size + 1) {
+        clear();
+        lines_size = below(below(4) ? 600 : 90000);
+        fill(lines, lines_size);
+        if (below(2))
+            for (size_t k = 0; k < lines_size; k++)
+                lines[k] = k % 4 != 0 ? 0 : k % FOLLOWUP_LINE_BYTES == 0 ? (uint8_t)"KBHR"[lines[k] % 4] : lines[k] % 4;
+        try_lines_with_writing();
+    }
+    end_group();
+}
+
+/* Changes, takes away or adds one byte. */
+static void damage_text(void)
+{
+    static const char letters[] = "KBHR 0123456789\n\r\t";
+    if (text_size == 0)
+        return;
+    size_t at = below(text_size), way = below(5);
+    uint8_t byte = below(4) ? (uint8_t)letters[below(sizeof letters - 1)] : (uint8_t)draw();
+    if (way == 0) {
+        memmove(text + at, text + at + 1, --text_size - at);
+    } else if (way == 1) {
+        memmove(text + at + 1, text + at, text_size++ - at);
+        text[at] = byte;
+    } else if (way == 2) {
+        text_size = at + 1;
+    } else {
+        text[at] = byte;
+    }
+}
+
+static void try_damaged_texts(void)
+{
+    size_t total = 0, good = 0;
+    begin_group("damaged texts");
+    while (total < MILLION) {
+        random_sheet();
+        for (size_t more = 1 + below(3); more > 0; more--)
+            damage_text();
+        total += text_size;
+        struct job job = try_call(READ, text, text_size, FOLLOWUP_TEXT_LINES_BYTES);
+        check(job.said.refusal <= 6 && job.said.refusal != 1 && (job.said.refusal == 0) == (job.said.line == 0), "refused with 2 to 6 and a line, or read");
+        if (job.said.refusal != 0)
+            continue;
+        good++;
+        lines_size = job.count * FOLLOWUP_LINE_BYTES;
+        memcpy(lines, result, lines_size);
+        try_both_ways();
+        try_judge();
+    }
+    check(good > 0, "some are still sheets");
+    end_group();
+}
+
+static void try_damaged_lines(void)
+{
+    begin_group("damaged lent lines");
+    for (size_t total = 0; total < MILLION; total += lines_size) {
+        random_sheet();
+        for (size_t more = 1 + below(2); more > 0; more--) {
+            size_t at = 4 * below(lines_size / 4), way = below(4);
+            if (way == 0)
+                lines_size = 4 + below(lines_size - 3);
+            else if (way == 1)
+                fill(lines + at, 4);
+            else
+                followup_put_u32(lines + at, (uint32_t)below(way == 2 ? 16 : 128));
+        }
+        try_lines_with_writing();
+    }
+    end_group();
+}
+
+int main(void)
+{
+    setvbuf(stdout, NULL, _IOLBF, 0); /* a crash is in the group after the last line printed */
+    map_memory();
+    try_header();
+    try_example();
+    try_sheets();
+    try_reading();
+    try_lent_lines();
+    try_text_limits();
+    try_line_limits();
+    try_odd_lengths();
+    try_nothing();
+    try_patterns();
+    try_deep();
+    try_small_stack();
+    try_threads();
+    try_random_sheets();
+    try_random_texts();
+    try_random_lines();
+    try_damaged_texts();
+    try_damaged_lines();
+    if (failures == 0)
+        printf("all %lu checks passed\n", checks);
+    else
+        printf("%lu of %lu checks failed\n", failures, checks);
+    return failures == 0 ? 0 : 1;
+}

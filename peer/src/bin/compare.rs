@@ -1,0 +1,440 @@
+//! Compares the proved library with the peer on random inputs, whole and damaged:
+//! every answer, and every byte of lent memory and around it.
+//!
+//!     compare [--seed N] [--count N] [--only N] [--progress] [--statistics]
+//!
+//! `--only` takes one input of a run, by its number. Exit status 1 on a difference,
+//! whose input is then written to a file.
+
+#[path = "../library.rs"]
+mod library;
+
+use library::{JudgeReply, Reply};
+use peer::random::{bytes_of, Input, Random};
+use peer::{Refusal, Verdict};
+use std::panic::{catch_unwind, AssertUnwindSafe};
+use std::process::ExitCode;
+use std::time::Instant;
+use std::{env, fmt, fs};
+
+/// Records up to which a sheet is chased.
+const CHASE: usize = 1_500;
+
+/// Lent memory with guards around it, all random at first.
+struct Lent {
+    bytes: Vec<u8>,
+    before: Vec<u8>,
+    start: usize,
+    size: usize,
+}
+
+impl Lent {
+    fn new(random: &mut Random, size: usize) -> Lent {
+        let start = random.between(32, 63);
+        let bytes = random.bytes(start + size + 32);
+        let before = bytes.clone();
+        Lent {
+            bytes,
+            before,
+            start,
+            size,
+        }
+    }
+
+    fn part(&mut self) -> &mut [u8] {
+        &mut self.bytes[self.start..self.start + self.size]
+    }
+
+    /// Whether the memory begins with these bytes and is otherwise as it was.
+    fn holds(&self, counted: &[u8]) -> Result<(), String> {
+        let end = self.start + counted.len();
+        if counted.len() > self.size || self.bytes[self.start..end] != *counted {
+            return Err("the counted part of the lent memory".to_string());
+        }
+        let same = |part: std::ops::Range<usize>| self.bytes[part.clone()] == self.before[part];
+        if !same(end..self.start + self.size) {
+            return Err("lent memory past the counted part has changed".to_string());
+        }
+        if !same(0..self.start) || !same(self.start + self.size..self.bytes.len()) {
+            return Err("memory outside the lent part has changed".to_string());
+        }
+        Ok(())
+    }
+}
+
+fn same<T: PartialEq + fmt::Debug>(what: &str, library: T, peer: T) -> Result<(), String> {
+    if library == peer {
+        return Ok(());
+    }
+    Err(format!("{what}: library {library:?}, peer {peer:?}"))
+}
+
+fn reply(answer: Result<usize, Refusal>) -> Reply {
+    match answer {
+        Ok(count) => Reply {
+            refusal: 0,
+            line: 0,
+            count,
+        },
+        Err(Refusal { number, line }) => Reply {
+            refusal: number,
+            line,
+            count: 0,
+        },
+    }
+}
+
+fn numbers_of(bytes: &[u8]) -> Vec<u32> {
+    let number = |part: &[u8]| u32::from_le_bytes([part[0], part[1], part[2], part[3]]);
+    bytes.chunks_exact(4).map(number).collect()
+}
+
+fn steps_of(bytes: &[u8]) -> Vec<[u16; 5]> {
+    let number = |step: &[u8], at: usize| u16::from_le_bytes([step[2 * at], step[2 * at + 1]]);
+    let step = |step: &[u8]| [0, 1, 2, 3, 4].map(|at| number(step, at));
+    bytes.chunks_exact(10).map(step).collect()
+}
+
+/// What the inputs of a run were like.
+#[derive(Default)]
+struct Tally {
+    read: [usize; 13],
+    written: [usize; 13],
+    patterns: [usize; 13],
+    judged: [usize; 13],
+    endless: usize,
+    chased: usize,
+    figures: Vec<Figures>,
+}
+
+/// Of a judged sheet.
+struct Figures {
+    style: &'static str,
+    endless: bool,
+    deepest: usize,
+    shapes: usize,
+    trail: usize,
+    turns: usize,
+}
+
+/// Reads by both, and writes back what was read.
+fn compare_read(random: &mut Random, input: &Input, tally: &mut Tally) -> Result<(), String> {
+    let mut lent = Lent::new(random, input.lent_lines);
+    let library = library::read(&input.text, lent.part());
+    let peer = peer::read(&input.text, input.lent_lines / 32);
+    let count = peer.as_ref().map(Vec::len).map_err(|&refusal| refusal);
+    same("read", library, reply(count))?;
+    tally.read[library.refusal as usize] += 1;
+    let lines = bytes_of(peer.unwrap_or_default().as_flattened());
+    lent.holds(&lines).map_err(|e| format!("read: {e}"))?;
+    if library.refusal == 0 {
+        let (_, text) = compare_write(random, &lines, input.text.len())?;
+        same("text written back", text.as_slice(), &input.text)?;
+    }
+    Ok(())
+}
+
+/// Writes by both; gives the refusal or 0, and the text, empty where it is refused.
+fn compare_write(random: &mut Random, lines: &[u8], size: usize) -> Result<(u32, Vec<u8>), String> {
+    let mut lent = Lent::new(random, size);
+    let library = library::write(lines, lent.part());
+    let peer = peer::write(&numbers_of(lines), size);
+    let count = peer.as_ref().map(Vec::len).map_err(|&refusal| refusal);
+    same("write", library, reply(count))?;
+    let text = peer.unwrap_or_default();
+    lent.holds(&text).map_err(|e| format!("write: {e}"))?;
+    Ok((library.refusal, text))
+}
+
+fn compare_pattern(input: &Input, tally: &mut Tally) -> Result<(), String> {
+    let library = library::pattern(&input.fields);
+    let peer = peer::pattern(&numbers_of(&input.fields));
+    same(
+        "pattern",
+        library,
+        reply(peer.map(|number| number as usize)),
+    )?;
+    tally.patterns[library.refusal as usize] += 1;
+    Ok(())
+}
+
+fn compare_judge(random: &mut Random, input: &Input, tally: &mut Tally) -> Result<(), String> {
+    let mut lent = Lent::new(random, input.lent_steps);
+    let library = library::judge(&input.lines, lent.part());
+    let numbers = numbers_of(&input.lines);
+    let counted = match peer::judge(&numbers, input.lent_steps / 2) {
+        Err(refusal) => {
+            same("judge", library, refused(refusal))?;
+            0
+        }
+        Ok(verdict) => {
+            let counted = compare_figures(&library, &verdict)?;
+            let steps = lent
+                .part()
+                .get(..counted)
+                .ok_or("judge: more steps than lent")?;
+            compare_answer(&numbers, &library, steps)?;
+            compare_chase(&numbers, &verdict, tally)?;
+            tally.count(input.style, &library);
+            counted
+        }
+    };
+    tally.judged[library.refusal as usize] += 1;
+    let steps = lent.part()[..counted].to_vec();
+    lent.holds(&steps).map_err(|e| format!("judge: {e}"))
+}
+
+fn refused(refusal: Refusal) -> JudgeReply {
+    JudgeReply {
+        refusal: refusal.number,
+        line: refusal.line,
+        verdict: 0,
+        deepest: 0,
+        shapes: 0,
+        fired: 0,
+        share: 0,
+        row: 0,
+        trail: 0,
+        turns: 0,
+    }
+}
+
+/// The figures that are the same for every right answer; gives the size of the library's steps.
+fn compare_figures(library: &JudgeReply, peer: &Verdict) -> Result<usize, String> {
+    same("judge: refusal", (library.refusal, library.line), (0, 0))?;
+    same(
+        "judge: verdict",
+        library.verdict,
+        if peer.endless { 2 } else { 1 },
+    )?;
+    same("judge: deepest", library.deepest, peer.deepest)?;
+    same("judge: shapes", library.shapes, peer.shapes)?;
+    same("judge: fired", library.fired, peer.fired)?;
+    same("judge: share", library.share, peer.share)?;
+    let steps = library.trail.checked_add(library.turns);
+    let size = steps.and_then(|steps| steps.checked_mul(10));
+    size.ok_or("judge: more steps than lent".to_string())
+}
+
+/// The figures and steps that are the library's choice, by the peer's test of answers.
+fn compare_answer(numbers: &[u32], library: &JudgeReply, steps: &[u8]) -> Result<(), String> {
+    let verdict = Verdict {
+        endless: library.verdict == 2,
+        deepest: library.deepest,
+        shapes: library.shapes,
+        fired: library.fired,
+        share: library.share,
+        row: library.row,
+        trail: library.trail,
+        turns: library.turns,
+        steps: steps_of(steps),
+    };
+    peer::verify(numbers, &verdict).map_err(|e| format!("judge: not so: {e}; {verdict:?}"))
+}
+
+/// A chase ends exactly where the sheet settles, and has the same counts.
+fn compare_chase(numbers: &[u32], verdict: &Verdict, tally: &mut Tally) -> Result<(), String> {
+    let cap = if verdict.endless { CHASE / 10 } else { CHASE };
+    let chased = peer::chase(numbers, cap);
+    if !chased.complete {
+        return Ok(());
+    }
+    tally.chased += 1;
+    same("chase: endless", verdict.endless, false)?;
+    same("chase: deepest", verdict.deepest, chased.deepest)?;
+    same("chase: shapes", verdict.shapes, chased.shapes)?;
+    same("chase: fired", verdict.fired, chased.fired)
+}
+
+fn compare(random: &mut Random, input: &Input, tally: &mut Tally) -> Result<(), String> {
+    compare_read(random, input, tally)?;
+    let (refusal, _) = compare_write(random, &input.lines, input.lent_text)?;
+    tally.written[refusal as usize] += 1;
+    compare_pattern(input, tally)?;
+    compare_judge(random, input, tally)
+}
+
+impl Tally {
+    fn count(&mut self, style: &'static str, reply: &JudgeReply) {
+        self.endless += usize::from(reply.verdict == 2);
+        self.figures.push(Figures {
+            style,
+            endless: reply.verdict == 2,
+            deepest: reply.deepest,
+            shapes: reply.shapes,
+            trail: reply.trail,
+            turns: reply.turns,
+        });
+    }
+
+    fn print_statistics(&self) {
+        let mut styles: Vec<&str> = self.figures.iter().map(|f| f.style).collect();
+        styles.sort_unstable();
+        styles.dedup();
+        println!("style        settles  endless  deepest  shapes  trail   loop (the most)");
+        for style in styles {
+            let of_style: Vec<&Figures> =
+                self.figures.iter().filter(|f| f.style == style).collect();
+            let endless = of_style.iter().filter(|f| f.endless).count();
+            let most = |figure: fn(&Figures) -> usize| {
+                of_style.iter().map(|f| figure(f)).max().unwrap_or(0)
+            };
+            println!(
+                "{style:12}{:8}{endless:9}{:9}{:8}{:7}{:7}",
+                of_style.len() - endless,
+                most(|f| f.deepest),
+                most(|f| f.shapes),
+                most(|f| f.trail),
+                most(|f| f.turns),
+            );
+        }
+        self.print_spread("deepest, settles", |f| (!f.endless).then_some(f.deepest));
+        self.print_spread("trail, settles", |f| (!f.endless).then_some(f.trail));
+        self.print_spread("trail, endless", |f| f.endless.then_some(f.trail));
+        self.print_spread("loop, endless", |f| f.endless.then_some(f.turns));
+        self.print_spread("shapes", |f| Some(f.shapes));
+    }
+
+    /// How many sheets have the figure 0, 1, 2 to 3, 4 to 7 and so on.
+    fn print_spread(&self, name: &str, figure: fn(&Figures) -> Option<usize>) {
+        let mut counts = [0; 14];
+        for figure in self.figures.iter().filter_map(figure) {
+            counts[(usize::BITS - figure.leading_zeros()) as usize] += 1;
+        }
+        print!("{name}:");
+        for (size, count) in counts.iter().enumerate().filter(|(_, &count)| count > 0) {
+            print!("  {}..: {count}", (1 << size) / 2);
+        }
+        println!();
+    }
+}
+
+/// "9000 good, 1: 20, 2: 300": how many were good and how many were refused, by number.
+fn counts(of: &[usize; 13]) -> String {
+    let refused = of
+        .iter()
+        .enumerate()
+        .skip(1)
+        .filter(|(_, &count)| count > 0);
+    let refused: Vec<String> = refused
+        .map(|(number, count)| format!(", {number}: {count}"))
+        .collect();
+    format!("{} good{}", of[0], refused.concat())
+}
+
+impl fmt::Display for Tally {
+    fn fmt(&self, f: &mut fmt::Formatter) -> fmt::Result {
+        write!(
+            f,
+            "read {}; write {}; pattern {}; judge {}; {} settle, {} endless, {} chased to the end",
+            counts(&self.read),
+            counts(&self.written),
+            counts(&self.patterns),
+            counts(&self.judged),
+            self.judged[0] - self.endless,
+            self.endless,
+            self.chased,
+        )
+    }
+}
+
+struct Options {
+    seed: u64,
+    from: u64,
+    count: u64,
+    progress: bool,
+    statistics: bool,
+}
+
+fn options() -> Result<Options, String> {
+    let mut options = Options {
+        seed: 1,
+        from: 0,
+        count: 20_000,
+        progress: false,
+        statistics: false,
+    };
+    let mut words = env::args().skip(1);
+    while let Some(word) = words.next() {
+        let mut number = || {
+            let word = words.next().and_then(|word| word.parse().ok());
+            word.ok_or("a number is missing".to_string())
+        };
+        match word.as_str() {
+            "--seed" => options.seed = number()?,
+            "--count" => options.count = number()?,
+            "--only" => (options.from, options.count) = (number()?, 1),
+            "--progress" => options.progress = true,
+            "--statistics" => options.statistics = true,
+            _ => return Err(format!("unknown: {word}")),
+        }
+    }
+    Ok(options)
+}
+
+/// Compares one input of a run; on a difference, says which and writes the input to a file.
+fn run(seed: u64, index: u64, tally: &mut Tally) -> Result<(), String> {
+    let mut random = Random::of_input(seed, index);
+    let input = Input::new(&mut random);
+    let result = catch_unwind(AssertUnwindSafe(|| compare(&mut random, &input, tally)));
+    let difference = match result {
+        Ok(Ok(())) => return Ok(()),
+        Ok(Err(difference)) => difference,
+        Err(_) => "the peer has stopped".to_string(),
+    };
+    let file = format!("difference-{seed}-{index}.txt");
+    let written = fs::write(&file, shown(&input, &difference));
+    let place = written.map_or_else(|e| format!("not written: {e}"), |()| format!("see {file}"));
+    Err(format!(
+        "input {index} ({}): {difference} ({place})",
+        input.style
+    ))
+}
+
+fn shown(input: &Input, difference: &str) -> String {
+    let mut shown = format!(
+        "{difference}\n\nLent for lines: {} bytes. ",
+        input.lent_lines
+    );
+    shown += &format!("Text of {} bytes:\n", input.text.len());
+    for line in input.text.split_inclusive(|&byte| byte == b'\n') {
+        shown += &format!("{}\n", line.escape_ascii());
+    }
+    shown += &format!("\nLent for text: {} bytes, ", input.lent_text);
+    shown += &format!("for steps: {} bytes. ", input.lent_steps);
+    shown += &format!("Lent lines of {} bytes:\n", input.lines.len());
+    for line in numbers_of(&input.lines).chunks(8) {
+        shown += &format!("{line:?}\n");
+    }
+    shown + &format!("\nFields: {:?}\n", numbers_of(&input.fields))
+}
+
+fn main() -> ExitCode {
+    let options = match options() {
+        Ok(options) => options,
+        Err(error) => {
+            eprintln!("compare: {error}");
+            return ExitCode::from(2);
+        }
+    };
+    let mut tally = Tally::default();
+    let start = Instant::now();
+    for index in options.from..options.from + options.count {
+        if let Err(difference) = run(options.seed, index, &mut tally) {
+            println!("seed {}: {difference}", options.seed);
+            return ExitCode::FAILURE;
+        }
+        let done = index + 1 - options.from;
+        if options.progress && done % 1_000 == 0 {
+            println!("{done} inputs, {:.1} s", start.elapsed().as_secs_f64());
+        }
+    }
+    if options.statistics {
+        tally.print_statistics();
+    }
+    println!(
+        "seed {}, {} inputs: {tally}; 0 differences",
+        options.seed, options.count
+    );
+    ExitCode::SUCCESS
+}

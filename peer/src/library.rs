@@ -1,0 +1,62 @@
+//! The proved library through its entry points for C, as safe functions on bytes.
+
+/// What reading, writing and finding a pattern answer: refusal 0 and a count,
+/// or a refusal with its number and line.
+#[repr(C)]
+#[derive(Clone, Copy, Debug, PartialEq, Eq)]
+pub struct Reply {
+    pub refusal: u32,
+    pub line: usize,
+    pub count: usize,
+}
+
+/// What judging answers: refusal 0 and the figures, or a refusal with its number and line.
+#[repr(C)]
+#[derive(Clone, Copy, Debug, PartialEq, Eq)]
+pub struct JudgeReply {
+    pub refusal: u32,
+    pub line: usize,
+    pub verdict: usize,
+    pub deepest: usize,
+    pub shapes: usize,
+    pub fired: usize,
+    pub share: usize,
+    pub row: usize,
+    pub trail: usize,
+    pub turns: usize,
+}
+
+extern "C" {
+    fn followup_read(text: *const u8, text_len: usize, lines: *mut u8, lines_len: usize) -> Reply;
+    fn followup_write(lines: *const u8, lines_len: usize, text: *mut u8, text_len: usize) -> Reply;
+    fn followup_pattern(fields: *const u8, fields_len: usize) -> Reply;
+    fn followup_judge(
+        lines: *const u8,
+        lines_len: usize,
+        steps: *mut u8,
+        steps_len: usize,
+    ) -> JudgeReply;
+}
+
+// Safety, here and below: each pointer and length come from one slice, and the
+// library reads and writes within them. A slice's pointer is never null.
+
+/// Reads a text into lent lines, 32 bytes each.
+pub fn read(text: &[u8], lines: &mut [u8]) -> Reply {
+    unsafe { followup_read(text.as_ptr(), text.len(), lines.as_mut_ptr(), lines.len()) }
+}
+
+/// Writes lent lines, 32 bytes each, as text.
+pub fn write(lines: &[u8], text: &mut [u8]) -> Reply {
+    unsafe { followup_write(lines.as_ptr(), lines.len(), text.as_mut_ptr(), text.len()) }
+}
+
+/// The number of a record's pattern; its fields are four bytes each.
+pub fn pattern(fields: &[u8]) -> Reply {
+    unsafe { followup_pattern(fields.as_ptr(), fields.len()) }
+}
+
+/// Judges lent lines, 32 bytes each; steps are ten bytes each.
+pub fn judge(lines: &[u8], steps: &mut [u8]) -> JudgeReply {
+    unsafe { followup_judge(lines.as_ptr(), lines.len(), steps.as_mut_ptr(), steps.len()) }
+}

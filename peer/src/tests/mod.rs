@@ -1,0 +1,4 @@
+mod answers;
+mod common;
+mod refusals;
+mod sheets;
