@@ -12,6 +12,7 @@ pub mod LinkLaws
 pub mod LinkSteps
 pub mod ListOf
 pub mod NodeLaws
+pub mod PartLaws
 pub mod PassLaws
 pub mod PatternPlaces
 pub mod PigeonLaws

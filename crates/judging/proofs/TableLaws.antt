@@ -16,7 +16,7 @@ use Rattle.patterns.specs.Outcome.{padded}
 use Rattle.chase.specs.Lists.{All}
 use Rattle.chase.specs.Rules.{Head, Rule, headsOf, rulesOf}
 use Rattle.judging.specs.Table.{SheetHeld, linesIn, rulesIn, ruleIn, rowBytes, tableRules, RuleFits, BytesFit, TableFits}
-use Rattle.judging.specs.Bytes.{front, marksAt, headsAt, ruleAt, LinesIn, headCount, byteOf, RowPut}
+use Rattle.judging.specs.Bytes.{front, marksAt, headsAt, ruleAt, LinesIn, headCount, byteOf, Blank, RowPut}
 use Rattle.judging.proofs.SheetLaws.{noLine, lineNo, held-lines, size-held, LentLine, lent-line, rules-fit-from, rules-few}
 use Rattle.judging.proofs.ByteLaws.{bytes-fit, rule-read}
 
@@ -212,15 +212,16 @@ module _ {numbers : List ℕ} (held : SheetHeld numbers) where
 
 -- ---- filling a table
 
--- The rules of the lines before line n are in the table.
+-- The rules of the lines before line n are in the table, which is 0 after them.
 pub record Filled (numbers table : List ℕ) (count n : ℕ) : Type 0 where
   pub size : length table ≡ 16384
+  pub blank : Blank table (64 * count)
   pub inside : n ≤ length (linesIn numbers)
   pub each : (k : ℕ) → k < count → BytesFit (rowBytes table k)
   pub rules : rulesIn numbers ≡ tableRules table count ++ rulesOf (drop n (linesIn numbers))
 
-pub filled-none : (numbers table : List ℕ) → length table ≡ 16384 → Filled numbers table 0 0
-filled-none numbers table size = record { size = size; inside = omega arith; each = λ k h. absurd (omega arith); rules = refl }
+pub filled-none : (numbers table : List ℕ) → length table ≡ 16384 → Blank table 0 → Filled numbers table 0 0
+filled-none numbers table size blank = record { size = size; blank = blank; inside = omega arith; each = λ k h. absurd (omega arith); rules = refl }
 
 module _ {numbers table : List ℕ} {count n : ℕ} (held : SheetHeld numbers) (f : Filled numbers table count n) where
   pub filled-inside : 8 * n ≤ length numbers
@@ -250,6 +251,7 @@ module _ {numbers table : List ℕ} {count n : ℕ} (held : SheetHeld numbers) (
         let inside = line .inside in
         record {
           size = f .size;
+          blank = f .blank;
           inside = omega arith;
           each = f .each;
           rules =
@@ -262,8 +264,8 @@ module _ {numbers table : List ℕ} {count n : ℕ} (held : SheetHeld numbers) (
       pub filled-room : count < 256
       filled-room = omega (arith, filled-count, ap length (rule-here held n here body .is))
 
-      filled-more : (after : List ℕ) → RowPut table count (ruleHere numbers n) after → Filled numbers after (count + 1) (n + 1)
-      filled-more after put =
+      filled-more : (after : List ℕ) → RowPut table count (ruleHere numbers n) after → Blank after (64 * count + 64) → Filled numbers after (count + 1) (n + 1)
+      filled-more after put blank =
           let r = rule-here held n here body in
           let room = filled-room in
           let long = f .size in
@@ -275,6 +277,7 @@ module _ {numbers table : List ℕ} {count n : ℕ} (held : SheetHeld numbers) (
           λ k h. row-same after table k (omega arith) (omega arith) (λ i small. put .same (64 * k + i) (omega arith)) in
           record {
             size = put .size;
+            blank = record { each = λ j h. blank .each j (omega arith) };
             inside = r .next;
             each = below-more (λ k. BytesFit (rowBytes after k)) count (λ k h. subst BytesFit (sym (same k h)) (f .each k h))
                 (bytes-fit (ruleHere numbers n) (rowBytes after count) (r .fits) size bytes);
@@ -289,12 +292,13 @@ module _ {numbers table : List ℕ} {count n : ℕ} (held : SheetHeld numbers) (
 
       module _ {heads : ℕ} (all : heads ≡ headCount numbers (n + 1)) where
         -- What putting the rule asks.
-        pub filled-asks : (length table ≡ 16384) × (count < 256) × LinesIn numbers (n + 1) heads × RuleFits (ruleAt numbers n heads)
+        pub filled-asks : (length table ≡ 16384) × (count < 256) × LinesIn numbers (n + 1) heads × RuleFits (ruleAt numbers n heads) × Blank table (64 * count)
         filled-asks =
             let r = rule-here held n here body in
             let lines = r .lines in
-            (f .size, filled-room, omega arith, subst (λ k. RuleFits (ruleAt numbers n k)) (sym all) (r .fits))
+            (f .size, filled-room, omega arith, subst (λ k. RuleFits (ruleAt numbers n k)) (sym all) (r .fits), f .blank)
 
         -- Once it is put.
-        pub filled-rule : {after : List ℕ} → RowPut table count (ruleAt numbers n heads) after → Filled numbers after (count + 1) (n + 1)
-        filled-rule {after} put = filled-more after (subst (λ k. RowPut table count (ruleAt numbers n k) after) all put)
+        pub filled-rule : {after : List ℕ} → RowPut table count (ruleAt numbers n heads) after × Blank after (64 * count + 64)
+            → Filled numbers after (count + 1) (n + 1)
+        filled-rule {after} put = filled-more after (subst (λ k. RowPut table count (ruleAt numbers n k) after) all (put .0)) (put .1)

@@ -1,13 +1,12 @@
 -- What the functions that fill the table of rules promise each other. Assumes nothing.
 use mathlib.Core.Path.{_≡_}
-use mathlib.Core.Bool.{Bool, cond}
+use mathlib.Core.Bool.{cond}
 use mathlib.Core.List.{List, [], _∷_}
 use Prim.Native.Nat.{ℕ, zero, suc, _+_, _-_, _*_, _≤_, _<_}
 use lib.Dec.{eqb, ltb}
 use lib.ListN.{length, getD, drop}
 use Rattle.chase.specs.Rules.{Head, Rule, marksOf, headsOf}
-use Rattle.chase.specs.Making.{has, keep}
-use Rattle.judging.specs.Table.{isNone, firstPlace, sourceAt, linesIn}
+use Rattle.judging.specs.Table.{firstPlace, sourceAt, linesIn}
 
 -- ---- lent numbers read as a rule
 
@@ -41,10 +40,6 @@ LineIn numbers n = 8 * n + 8 ≤ length numbers
 abbrev pub LinesIn : List ℕ → ℕ → ℕ → Type 0
 LinesIn numbers n k = 8 * (n + k) ≤ length numbers
 
--- No mark stands in H lines.
-abbrev pub noneIn : List ℕ → List Head → Bool
-noneIn marks heads = isNone (keep (λ m. has m (marksOf heads)) marks)
-
 -- How many H lines stand at line n of a sheet and after it.
 abbrev pub headCount : List ℕ → ℕ → ℕ
 headCount numbers n = length (headsOf (drop n (linesIn numbers)))
@@ -66,6 +61,55 @@ byteOf r i =
     cond (ltb i 8) (lineByte (r .kind) (r .marks) i)
     (cond (ltb i 21) (firstPlace (i - 8) (r .marks))
     (cond (ltb i 28) (sourceAt r (i - 21)) (cond (ltb i 32) (cond (eqb i 28) (length (r .heads)) 0) (headByte (r .heads) (i - 32)))))
+
+-- ---- bytes put into a table
+
+-- The bytes from a place on are 0.
+pub record Blank (table : List ℕ) (from : ℕ) : Type 0 where
+  pub each : (j : ℕ) → from ≤ j → getD table j 0 ≡ 0
+
+-- So many bytes from a place on are put; the others stay.
+pub record Part (before : List ℕ) (at size : ℕ) (byte : ℕ → ℕ) (after : List ℕ) : Type 0 where
+  pub whole : length after ≡ length before
+  pub below : (j : ℕ) → j < at → getD after j 0 ≡ getD before j 0
+  pub above : (j : ℕ) → at + size ≤ j → getD after j 0 ≡ getD before j 0
+  pub bytes : (i : ℕ) → i < size → getD after (at + i) 0 ≡ byte i
+
+abbrev pub markByte : List ℕ → ℕ → ℕ
+markByte marks i = getD marks i 0
+
+abbrev pub placeByte : List ℕ → ℕ → ℕ
+placeByte marks m = firstPlace m marks
+
+-- The first place of a mark by the bytes of the rule that starts at a byte.
+abbrev pub placeIn : List ℕ → ℕ → ℕ → ℕ
+placeIn table at m = getD table (at + 8 + m) 0
+
+pub record PlacesFit (table : List ℕ) (at : ℕ) : Type 0 where
+  pub small : (m : ℕ) → m ≤ 12 → placeIn table at m ≤ 6
+
+-- What the byte x of source p becomes where a mark with this first place is carried: place 0 is a source no more, and the first place is one.
+abbrev pub sourceOnce : ℕ → ℕ → ℕ → ℕ
+sourceOnce zero p x = x
+sourceOnce (suc k) zero x = 0
+sourceOnce (suc k) (suc i) x = cond (eqb k i) 1 x
+
+-- What it becomes where each of these marks stands in an H line.
+abbrev pub sourceAfter : (ℕ → ℕ) → List ℕ → ℕ → ℕ → ℕ
+sourceAfter place [] p x = x
+sourceAfter place (m ∷ ms) p x = sourceAfter place ms p (sourceOnce (place m) p x)
+
+abbrev pub sourcesWith : List ℕ → ℕ → List ℕ → ℕ → ℕ
+sourcesWith table at marks p = sourceAfter (placeIn table at) marks p (getD table (at + 21 + p) 0)
+
+-- H lines and the sources that their marks show are put into the rule that starts at a byte.
+pub record HeadsPut (before : List ℕ) (at : ℕ) (heads : List Head) (after : List ℕ) : Type 0 where
+  pub whole : length after ≡ length before
+  pub below : (j : ℕ) → j < at + 21 → getD after j 0 ≡ getD before j 0
+  pub between : (j : ℕ) → at + 28 ≤ j → j < at + 32 → getD after j 0 ≡ getD before j 0
+  pub above : (j : ℕ) → at + 64 ≤ j → getD after j 0 ≡ getD before j 0
+  pub sources : (p : ℕ) → p < 7 → getD after (at + 21 + p) 0 ≡ sourcesWith before at (marksOf heads) p
+  pub lines : (i : ℕ) → i < 32 → getD after (at + 32 + i) 0 ≡ headByte heads i
 
 -- The bytes of rule k are put into a table; the rows before it stay.
 pub record RowPut (before : List ℕ) (k : ℕ) (rule : Rule) (after : List ℕ) : Type 0 where

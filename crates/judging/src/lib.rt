@@ -348,9 +348,9 @@ fn judge_sheet(lines: &[u32], steps: &mut [u16]) -> JudgeAnswer
     requires { ⌜ SheetHeld (now lines) × (20480 ≤ length (now steps)) ⌝ }
     ensures { λ r. ⌜ JudgeMeets shapeLimit (now (lines .entry)) (now (steps .entry)) (judgeSays r) (now (steps .exit)) ⌝ }
 {
-    let rules = table::rules_of(lines);
-    let table = rules.table;
-    judge_rules(lines, steps, &table, rules.count)
+    let mut table = table::no_rules();
+    let rules = table::rules_of(lines, &mut table);
+    judge_rules(lines, steps, &table, rules)
 }
 
 // Judges lent lines, eight numbers each. At least 4,096 steps, five numbers each, are lent for the trail and the loop. A good call changes the steps that it counts and nothing else; a refusal changes nothing.

@@ -8,18 +8,11 @@
 //   32 + 8h  H line h: its kind, how many marks it has, its marks
 // Places that are not used hold 0.
 ghost use mathlib.Core.Path.{_≡_};
+ghost use mathlib.Core.List.{[], _∷_};
 ghost use Prim.Native.Nat.{_+_, _*_, _≤_, _<_};
 ghost use lib.ListN.{length, getD};
-ghost use Rattle.chase.specs.Rules.{marksOf};
-ghost use Rattle.chase.specs.Making.{has};
-ghost use Rattle.judging.specs.Table.{SheetHeld, linesIn, rulesIn, tableRules, TableFits, RuleFits, firstPlace, sourceAt, flag};
-ghost use Rattle.judging.specs.Bytes.{marksAt, headsAt, ruleAt, LineIn, LinesIn, noneIn, headCount, lineByte, headByte, byteOf, RowPut};
-
-// The rules of a sheet.
-pub(crate) struct Rules {
-    pub table: [u8; 16384],
-    pub count: usize,
-}
+ghost use Rattle.judging.specs.Table.{SheetHeld, linesIn, rulesIn, tableRules, MarksFit, HeadFits, RuleFits, TableFits};
+ghost use Rattle.judging.specs.Bytes.{marksAt, headAt, headsAt, ruleAt, LineIn, LinesIn, headCount, lineByte, Blank, Part, markByte, placeByte, PlacesFit, sourcesWith, HeadsPut, RowPut};
 
 fn wide(x: u32) -> usize
     ensures { λ r. ⌜ r ≡ x ⌝ }
@@ -42,188 +35,121 @@ fn heads_at(lines: &[u32], n: usize) -> usize
     i - n
 }
 
-// How many marks line `n` has.
-fn mark_count(lines: &[u32], n: usize) -> usize
-    requires { ⌜ LineIn (now lines) n ⌝ }
-    ensures { λ r. ⌜ r ≡ length (marksAt (now (lines .entry)) n) ⌝ }
+// Puts the marks of line `n` at byte `at` of a table that is 0 from there on; answers how many.
+fn put_marks(table: &mut [u8; 16384], at: usize, lines: &[u32], n: usize) -> usize
+    requires { ⌜ (length (now table) ≡ 16384) × (at + 6 ≤ 16384) × LineIn (now lines) n × MarksFit (marksAt (now lines) n) × Blank (now table) at ⌝ }
+    ensures { λ r. ⌜ (r ≡ length (marksAt (now (lines .entry)) n)) × Part (now (table .entry)) at 6 (markByte (marksAt (now (lines .entry)) n)) (now (table .exit)) ⌝ }
 {
     let mut i: usize = 0;
     while i < 6 {
-        if lines[8 * n + 2 + i] == 0 {
+        let mark = lines[8 * n + 2 + i];
+        if mark == 0 {
             return i;
         }
+        table[at + i] = mark as u8;
         i += 1;
     }
     i
 }
 
-// Mark `i` of line `n`; 0 where it has none.
-fn mark_at(lines: &[u32], n: usize, i: usize) -> usize
-    requires { ⌜ LineIn (now lines) n × (i < 6) ⌝ }
-    ensures { λ r. ⌜ r ≡ getD (marksAt (now (lines .entry)) n) i 0 ⌝ }
+// Puts line `n` at byte `at` of a table that is 0 from there on: its kind, how many marks it has, its marks. Answers how many.
+fn put_line(table: &mut [u8; 16384], at: usize, lines: &[u32], n: usize) -> usize
+    requires { ⌜ (length (now table) ≡ 16384) × (at + 8 ≤ 16384) × LineIn (now lines) n × HeadFits (headAt (now lines) n) × Blank (now table) at ⌝ }
+    ensures { λ r. ⌜ (r ≡ length (marksAt (now (lines .entry)) n)) × Part (now (table .entry)) at 8 (lineByte (getD (now (lines .entry)) (8 * n + 1) 0) (marksAt (now (lines .entry)) n)) (now (table .exit)) ⌝ }
 {
-    if i < mark_count(lines, n) {
-        wide(lines[8 * n + 2 + i])
-    } else {
-        0
+    let count = put_marks(table, at + 2, lines, n);
+    table[at] = lines[8 * n + 1] as u8;
+    table[at + 1] = count as u8;
+    count
+}
+
+// Puts the first places of the marks of line `n`, which has so many, into the rule at byte `at`.
+fn put_places(table: &mut [u8; 16384], at: usize, lines: &[u32], n: usize, count: usize)
+    requires { ⌜ (length (now table) ≡ 16384) × (at + 21 ≤ 16384) × LineIn (now lines) n × MarksFit (marksAt (now lines) n) × (count ≡ length (marksAt (now lines) n)) × Blank (now table) (at + 8) ⌝ }
+    ensures { λ _. ⌜ Part (now (table .entry)) (at + 8) 13 (placeByte (marksAt (now (lines .entry)) n)) (now (table .exit)) ⌝ }
+{
+    let mut i = count;
+    while 0 < i {
+        let mark = wide(lines[8 * n + 1 + i]);
+        table[at + 8 + mark] = i as u8;
+        i -= 1;
     }
 }
 
-// The first place of a mark in line `n`, counted from 1; 0 where it does not stand there.
-fn first_place(lines: &[u32], n: usize, mark: usize) -> usize
-    requires { ⌜ LineIn (now lines) n ⌝ }
-    ensures { λ r. ⌜ r ≡ firstPlace mark (marksAt (now (lines .entry)) n) ⌝ }
+// Puts the first place of a mark among the sources of the rule at byte `at`, where the mark has one.
+fn put_source(table: &mut [u8; 16384], at: usize, mark: usize)
+    requires { ⌜ (length (now table) ≡ 16384) × (at + 28 ≤ 16384) × (mark ≤ 12) × PlacesFit (now table) at ⌝ }
+    ensures { λ _. ⌜ Part (now (table .entry)) (at + 21) 7 (sourcesWith (now (table .entry)) at (mark ∷ [])) (now (table .exit)) ⌝ }
+{
+    let place = table[at + 8 + mark] as usize;
+    if place == 0 {
+        return;
+    }
+    table[at + 21] = 0;
+    table[at + 21 + place] = 1;
+}
+
+// The same for each mark of line `n`, which has so many.
+fn put_sources(table: &mut [u8; 16384], at: usize, lines: &[u32], n: usize, count: usize)
+    requires { ⌜ (length (now table) ≡ 16384) × (at + 28 ≤ 16384) × LineIn (now lines) n × MarksFit (marksAt (now lines) n) × (count ≡ length (marksAt (now lines) n)) × PlacesFit (now table) at ⌝ }
+    ensures { λ _. ⌜ Part (now (table .entry)) (at + 21) 7 (sourcesWith (now (table .entry)) at (marksAt (now (lines .entry)) n)) (now (table .exit)) ⌝ }
 {
     let mut i: usize = 0;
-    while i < 6 {
-        let found = wide(lines[8 * n + 2 + i]);
-        if found == 0 {
-            return 0;
-        }
-        if mark == found {
-            return i + 1;
-        }
+    while i < count {
+        let mark = wide(lines[8 * n + 2 + i]);
+        put_source(table, at, mark);
         i += 1;
     }
-    0
 }
 
-// Whether a mark stands in one of so many H lines from line `n` on.
-fn in_heads(lines: &[u32], n: usize, heads: usize, mark: usize) -> bool
-    requires { ⌜ LinesIn (now lines) n heads ⌝ }
-    ensures { λ r. ⌜ r ≡ has mark (marksOf (headsAt (now (lines .entry)) n heads)) ⌝ }
+// Puts the H lines after line `n`, and the sources that their marks show, into the rule at byte `at`.
+fn put_heads(table: &mut [u8; 16384], at: usize, lines: &[u32], n: usize, heads: usize)
+    requires { ⌜ (length (now table) ≡ 16384) × (at + 64 ≤ 16384) × LinesIn (now lines) (n + 1) heads × RuleFits (ruleAt (now lines) n heads) × PlacesFit (now table) at × Blank (now table) (at + 32) ⌝ }
+    ensures { λ _. ⌜ HeadsPut (now (table .entry)) at (headsAt (now (lines .entry)) (n + 1) heads) (now (table .exit)) ⌝ }
 {
     let mut h: usize = 0;
     while h < heads {
-        if first_place(lines, n + h, mark) != 0 {
-            return true;
-        }
+        let line = n + 1 + h;
+        let count = put_line(table, at + 32 + 8 * h, lines, line);
+        put_sources(table, at, lines, line, count);
         h += 1;
     }
-    false
 }
 
-// 1 where no mark of line `n` stands in the H lines after it; 0 where one does.
-fn carries_none(lines: &[u32], n: usize, heads: usize) -> usize
-    requires { ⌜ LinesIn (now lines) (n + 1) heads ⌝ }
-    ensures { λ r. ⌜ r ≡ flag (noneIn (marksAt (now (lines .entry)) n) (headsAt (now (lines .entry)) (n + 1) heads)) ⌝ }
-{
-    let mut i: usize = 0;
-    while i < 6 {
-        let mark = wide(lines[8 * n + 2 + i]);
-        if mark == 0 {
-            return 1;
-        }
-        if in_heads(lines, n + 1, heads, mark) {
-            return 0;
-        }
-        i += 1;
-    }
-    1
-}
-
-// Whether fresh numbers of the rule at line `n` come from place `p`.
-fn source_at(lines: &[u32], n: usize, heads: usize, p: usize) -> usize
-    requires { ⌜ LinesIn (now lines) (n + 1) heads × (p ≤ 6) ⌝ }
-    ensures { λ r. ⌜ r ≡ sourceAt (ruleAt (now (lines .entry)) n heads) p ⌝ }
-{
-    if p == 0 {
-        return carries_none(lines, n, heads);
-    }
-    let mark = mark_at(lines, n, p - 1);
-    if first_place(lines, n, mark) != p {
-        return 0;
-    }
-    if in_heads(lines, n + 1, heads, mark) {
-        1
-    } else {
-        0
-    }
-}
-
-// Byte `i` of line `n`.
-fn line_byte(lines: &[u32], n: usize, i: usize) -> usize
-    requires { ⌜ LineIn (now lines) n × (i < 8) ⌝ }
-    ensures { λ r. ⌜ r ≡ lineByte (getD (now (lines .entry)) (8 * n + 1) 0) (marksAt (now (lines .entry)) n) i ⌝ }
-{
-    if i == 0 {
-        return wide(lines[8 * n + 1]);
-    }
-    if i == 1 {
-        return mark_count(lines, n);
-    }
-    mark_at(lines, n, i - 2)
-}
-
-// Byte `i` of so many H lines from line `n` on.
-fn head_byte(lines: &[u32], n: usize, heads: usize, i: usize) -> usize
-    requires { ⌜ LinesIn (now lines) n heads ⌝ }
-    ensures { λ r. ⌜ r ≡ headByte (headsAt (now (lines .entry)) n heads) i ⌝ }
-{
-    if i / 8 < heads {
-        line_byte(lines, n + i / 8, i % 8)
-    } else {
-        0
-    }
-}
-
-// Byte `i` of the rule at line `n`.
-fn byte_at(lines: &[u32], n: usize, heads: usize, i: usize) -> usize
-    requires { ⌜ LinesIn (now lines) (n + 1) heads × (i < 64) ⌝ }
-    ensures { λ r. ⌜ r ≡ byteOf (ruleAt (now (lines .entry)) n heads) i ⌝ }
-{
-    if i < 8 {
-        return line_byte(lines, n, i);
-    }
-    if i < 21 {
-        return first_place(lines, n, i - 8);
-    }
-    if i < 28 {
-        return source_at(lines, n, heads, i - 21);
-    }
-    if 32 <= i {
-        return head_byte(lines, n + 1, heads, i - 32);
-    }
-    if i == 28 {
-        return heads;
-    }
-    0
-}
-
-// Puts the bytes of the rule at line `n` at rule `r`.
+// Puts the rule at line `n` at row `r` of a table that is 0 from there on. Place 0 is a source until a mark is carried.
 fn put_rule(table: &mut [u8; 16384], r: usize, lines: &[u32], n: usize, heads: usize)
-    requires { ⌜ (length (now table) ≡ 16384) × (r < 256) × LinesIn (now lines) (n + 1) heads × RuleFits (ruleAt (now lines) n heads) ⌝ }
-    ensures { λ _. ⌜ RowPut (now (table .entry)) r (ruleAt (now (lines .entry)) n heads) (now (table .exit)) ⌝ }
+    requires { ⌜ (length (now table) ≡ 16384) × (r < 256) × LinesIn (now lines) (n + 1) heads × RuleFits (ruleAt (now lines) n heads) × Blank (now table) (64 * r) ⌝ }
+    ensures { λ _. ⌜ RowPut (now (table .entry)) r (ruleAt (now (lines .entry)) n heads) (now (table .exit)) × Blank (now (table .exit)) (64 * r + 64) ⌝ }
 {
-    let mut i: usize = 0;
-    while i < 64 {
-        table[64 * r + i] = byte_at(lines, n, heads, i) as u8;
-        i += 1;
-    }
+    let at = 64 * r;
+    let count = put_line(table, at, lines, n);
+    put_places(table, at, lines, n, count);
+    table[at + 21] = 1;
+    table[at + 28] = heads as u8;
+    put_heads(table, at, lines, n, heads);
 }
 
 // 16,384 zeros.
-fn no_rules() -> [u8; 16384]
-    ensures { λ r. ⌜ length r ≡ 16384 ⌝ }
+pub(crate) fn no_rules() -> [u8; 16384]
+    ensures { λ r. ⌜ (length r ≡ 16384) × Blank r 0 ⌝ }
 {
     [0u8; 16384]
 }
 
-// The rules of a sheet's lent lines.
-pub(crate) fn rules_of(lines: &[u32]) -> Rules
-    requires { ⌜ SheetHeld (now lines) ⌝ }
-    ensures { λ r. ⌜ TableFits (r .table) (r .count) × (tableRules (r .table) (r .count) ≡ rulesIn (now (lines .entry))) ⌝ }
+// Puts the rules of a sheet's lent lines into a table of zeros; answers how many.
+pub(crate) fn rules_of(lines: &[u32], table: &mut [u8; 16384]) -> usize
+    requires { ⌜ SheetHeld (now lines) × (length (now table) ≡ 16384) × Blank (now table) 0 ⌝ }
+    ensures { λ r. ⌜ TableFits (now (table .exit)) r × (tableRules (now (table .exit)) r ≡ rulesIn (now (lines .entry))) ⌝ }
 {
-    let mut table = no_rules();
     let mut count: usize = 0;
     let mut n: usize = 0;
     while 8 * n < lines.len() {
         if lines[8 * n] == 66 {
             let heads = heads_at(lines, n + 1);
-            put_rule(&mut table, count, lines, n, heads);
+            put_rule(table, count, lines, n, heads);
             count += 1;
         }
         n += 1;
     }
-    Rules { table, count }
+    count
 }

@@ -1,65 +1,82 @@
--- `judging::table::put_rule` puts a rule into the table. The invariant: the bytes passed are put, and the rows before stay. Assumes nothing.
-use Prim.Native.Nat.{_-_}
+-- `judging::table::put_rule` puts a rule into the table. Assumes nothing.
+use mathlib.Core.Path.{sym, _∙_}
+use Prim.Native.Nat.{_+_}
 use native.Mathlib.Omega.{arith}
 use borrow.Author.Needs.{needs}
 use Rattle.judging.specs.Bytes.{ruleAt}
-use Rattle.judging.proofs.ByteLaws.{Putting, putting-none, putting-more, putting-done, byte-small}
+use Rattle.judging.proofs.ByteLaws.{length-headsAt}
+use Rattle.judging.proofs.PartLaws.{part-blank, body-put, body-places, body-blank, rule-put, heads-few}
 use Rattle.judging.proofs.table.put_rule.Statement.{statement}
 use Rattle.judging.proofs.table.put_rule.Tie as tie
 
-abbrev Inv-loop : tie.InvT-loop
-Inv-loop table₀ r lines n heads i₀ table i = Putting table₀ r (ruleAt lines n heads) i table
+mul-at : tie.Need-mul-at
+mul-at c = search needs
 
-abbrev μ-loop : tie.MeasureT-loop
-μ-loop table₀ r lines n heads i₀ table i = 64 - i
+put-line-requires : tie.Need-put-line-requires
+put-line-requires c κs =
+    let s = c .before .before .pre in
+    let few = s .1 in
+    let lines = s .2 in
+    (s .0, omega arith, omega arith, record { kind = s .3 .kind; marks = s .3 .marks }, s .4)
 
-loop-holds : tie.Need-loop-holds Inv-loop μ-loop
-loop-holds c = putting-none _ _ _ (c .before .pre .0)
+put-places-requires : tie.Need-put-places-requires
+put-places-requires c κs =
+    let s = c .before .before .before .before .pre in
+    let few = s .1 in
+    let lines = s .2 in
+    let p = c .before .put-line .ensures in
+    (p .1 .whole ∙ s .0, omega arith, omega arith, s .3 .marks, p .0, part-blank (p .1) (s .4))
 
-byte-at-requires : tie.Need-byte-at-requires Inv-loop μ-loop
-byte-at-requires c κs = search needs
-
-cast-table : tie.Need-cast-table Inv-loop μ-loop
-cast-table c =
-    let s = c .before .before .before .before .args in
-    omega
-    (arith, c .byte-at .ensures, byte-small (ruleAt (s .lines .now) (s .n) (s .heads)) (c .before .before .before .before .pre .3) (c .before .before .loop .i))
-
-mul-table : tie.Need-mul-table Inv-loop μ-loop
-mul-table c = search needs
-
-add-table : tie.Need-add-table Inv-loop μ-loop
+add-table : tie.Need-add-table
 add-table c = search needs
 
-element-write-table : tie.Need-element-write-table Inv-loop μ-loop
+element-write-table : tie.Need-element-write-table
 element-write-table c = search needs
 
-add-i : tie.Need-add-i Inv-loop μ-loop
-add-i c = search needs
+cast-table : tie.Need-cast-table
+cast-table c =
+    let s = c .before .before .before .before .before in
+    omega (arith, heads-few (s .args .lines .now) (s .args .n) (s .args .heads) (s .pre .3))
 
-loop-less : tie.Need-loop-less Inv-loop μ-loop
-loop-less c = search needs
+add-table-2 : tie.Need-add-table-2
+add-table-2 c = search needs
 
-loop-again : tie.Need-loop-again Inv-loop μ-loop
-loop-again c =
-    putting-more (c .before .before .loop .inv) (c .before .before .before .before .pre .1) (c .before .loop-test .taken) (c .byte-at .ensures)
+element-write-table-2 : tie.Need-element-write-table-2
+element-write-table-2 c = search needs
 
-returns : tie.Need-returns Inv-loop μ-loop
-returns c = putting-done (c .before .loop .inv) (c .loop-test .left)
+put-heads-requires : tie.Need-put-heads-requires
+put-heads-requires c κs =
+    let s = c .before .before .before .before .before .before in
+    let rule = ruleAt (s .args .lines .now) (s .args .n) (s .args .heads) in
+    let size = s .pre .0 in
+    let few = s .pre .1 in
+    let b =
+    body-put rule (s .pre .4) (omega arith) (c .before .before .before .put-line .ensures .1) (c .before .put-places .ensures)
+    (sym (length-headsAt (s .args .lines .now) (s .args .heads) (s .args .n + 1))) in
+    (b .whole ∙ size, omega arith, s .pre .2, s .pre .3, body-places (s .pre .4) (s .pre .3) b, body-blank (s .pre .4) (s .pre .3) b)
+
+returns : tie.Need-returns
+returns c =
+    let s = c .before .before .before .before .before .before .before in
+    let rule = ruleAt (s .args .lines .now) (s .args .n) (s .args .heads) in
+    let size = s .pre .0 in
+    let few = s .pre .1 in
+    let b =
+    body-put rule (s .pre .4) (omega arith) (c .before .before .before .before .put-line .ensures .1) (c .before .before .put-places .ensures)
+    (sym (length-headsAt (s .args .lines .now) (s .args .heads) (s .args .n + 1))) in
+    rule-put (s .args .r) size (s .pre .4) (s .pre .3) b (c .put-heads .ensures)
 
 pub put-rule-spec : {M : Type 1} → statement M
 put-rule-spec =
     tie.close
     (tie.spec
-    Inv-loop
-    μ-loop
-    loop-holds
-    byte-at-requires
-    cast-table
-    mul-table
+    mul-at
+    put-line-requires
+    put-places-requires
     add-table
     element-write-table
-    add-i
-    loop-less
-    loop-again
+    cast-table
+    add-table-2
+    element-write-table-2
+    put-heads-requires
     returns)

@@ -16,14 +16,11 @@ Inv-loop lines table₀ count₀ n₀ table count n = Filled lines table count n
 abbrev μ-loop : tie.MeasureT-loop
 μ-loop lines table₀ count₀ n₀ table count n = length lines - n
 
-no-rules-requires : tie.Need-no-rules-requires Inv-loop μ-loop
-no-rules-requires c κs = search needs
-
 loop-holds : tie.Need-loop-holds Inv-loop μ-loop
-loop-holds c = filled-none _ _ (c .no-rules .ensures)
+loop-holds c = filled-none _ _ (c .before .pre .1) (c .before .pre .2)
 
 mul-loop : tie.Need-mul-loop Inv-loop μ-loop
-mul-loop c = omega (arith, filled-inside (c .before .before .before .pre) (c .loop .inv))
+mul-loop c = omega (arith, filled-inside (c .before .before .pre .0) (c .loop .inv))
 
 mul-if1 : tie.Need-mul-if1 Inv-loop μ-loop
 mul-if1 c = search needs
@@ -39,18 +36,18 @@ add-heads-at c = search needs
 
 heads-at-requires : tie.Need-heads-at-requires Inv-loop μ-loop
 heads-at-requires c κs =
-    let s = c .before .before .before .before .before .before in
-    (s .pre, rule-here (s .pre) _ (c .before .before .loop-test .taken) (c .if1 .taken) .next)
+    let s = c .before .before .before .before .before in
+    (s .pre .0, rule-here (s .pre .0) _ (c .before .before .loop-test .taken) (c .if1 .taken) .next)
 
 put-rule-requires : tie.Need-put-rule-requires Inv-loop μ-loop
 put-rule-requires c κs =
-    filled-asks (c .before .before .before .before .before .before .before .before .pre) (c .before .before .before .before .before .loop .inv)
+    filled-asks (c .before .before .before .before .before .before .before .pre .0) (c .before .before .before .before .before .loop .inv)
     (c .before .before .before .before .loop-test .taken) (c .before .before .if1 .taken) (c .before .heads-at .ensures)
 
 add-count : tie.Need-add-count Inv-loop μ-loop
 add-count c =
     let a = c .before .before .before .before .before .before in
-    let room = filled-room (a .before .before .before .pre) (a .loop .inv) (c .before .before .before .before .before .loop-test .taken) (c .before .before .before .if1 .taken) in
+    let room = filled-room (a .before .before .pre .0) (a .loop .inv) (c .before .before .before .before .before .loop-test .taken) (c .before .before .before .if1 .taken) in
     omega arith
 
 add-n : tie.Need-add-n Inv-loop μ-loop
@@ -61,15 +58,15 @@ loop-less c = search needs
 
 loop-again : tie.Need-loop-again Inv-loop μ-loop
 loop-again c =
-    let s = c .before .before .before .before .before .before in
+    let s = c .before .before .before .before .before in
     let l = c .before .before .before .loop in
     let next : List ℕ → ℕ → Type 0 = λ t k. Filled (s .args .lines .now) t k (l .n + 1) in
     ⊎-elim
-    (λ w. subst₂ next (sym (w .4)) (sym (w .5)) (filled-rule (s .pre) (l .inv) (c .before .before .loop-test .taken) (w .0 .taken) (w .1 .ensures) (w .3 .ensures)))
-    (λ w. subst₂ next (sym (w .1)) (sym (w .2)) (filled-other (s .pre) (l .inv) (c .before .before .loop-test .taken) (w .0 .left))) (c .if1 .came)
+    (λ w. subst₂ next (sym (w .4)) (sym (w .5)) (filled-rule (s .pre .0) (l .inv) (c .before .before .loop-test .taken) (w .0 .taken) (w .1 .ensures) (w .3 .ensures)))
+    (λ w. subst₂ next (sym (w .1)) (sym (w .2)) (filled-other (s .pre .0) (l .inv) (c .before .before .loop-test .taken) (w .0 .left))) (c .if1 .came)
 
 returns : tie.Need-returns Inv-loop μ-loop
-returns c = filled-end (c .before .before .before .before .pre) (c .before .loop .inv) (c .loop-test .left)
+returns c = filled-end (c .before .before .before .pre .0) (c .before .loop .inv) (c .loop-test .left)
 
 pub rules-of-spec : {M : Type 1} → statement M
 rules-of-spec =
@@ -77,7 +74,6 @@ rules-of-spec =
     (tie.spec
     Inv-loop
     μ-loop
-    no-rules-requires
     loop-holds
     mul-loop
     mul-if1

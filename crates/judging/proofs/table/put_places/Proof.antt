@@ -1,0 +1,103 @@
+-- `judging::table::put_places` puts the first places of marks. The invariant: those of the marks passed, from the last on. Assumes nothing.
+use mathlib.Core.Path.{_∙_}
+use native.Mathlib.Omega.{arith}
+use borrow.Author.Needs.{needs}
+use Rattle.judging.specs.Bytes.{marksAt}
+use Rattle.judging.proofs.PartLaws.{Placing, placing-none, placing-done, placing-more, mark-before, mark-before-few}
+use Rattle.judging.proofs.table.put_places.Statement.{statement}
+use Rattle.judging.proofs.table.put_places.Tie as tie
+
+abbrev Inv-loop : tie.InvT-loop
+Inv-loop table₀ at lines n count i₀ table i = Placing table₀ at (marksAt lines n) i table
+
+abbrev μ-loop : tie.MeasureT-loop
+μ-loop table₀ at lines n count i₀ table i = i
+
+loop-holds : tie.Need-loop-holds Inv-loop μ-loop
+loop-holds c = let s = c .before .pre in placing-none _ _ _ (s .5) (s .4)
+
+mul-wide : tie.Need-mul-wide Inv-loop μ-loop
+mul-wide c = search needs
+
+add-wide : tie.Need-add-wide Inv-loop μ-loop
+add-wide c = search needs
+
+add-wide-2 : tie.Need-add-wide-2 Inv-loop μ-loop
+add-wide-2 c = search needs
+
+mul-wide-2 : tie.Need-mul-wide-2 Inv-loop μ-loop
+mul-wide-2 c = search needs
+
+shared-slice-read-wide : tie.Need-shared-slice-read-wide Inv-loop μ-loop
+shared-slice-read-wide c =
+    let s = c .before .before .before .before .pre in
+    let few = s .3 .few in
+    let most = c .before .before .loop .inv .most in
+    omega arith
+
+wide-requires : tie.Need-wide-requires Inv-loop μ-loop
+wide-requires c κs = search needs
+
+cast-table : tie.Need-cast-table Inv-loop μ-loop
+cast-table c =
+    let few = c .before .before .before .before .before .pre .3 .few in
+    let most = c .before .before .before .loop .inv .most in
+    omega arith
+
+add-table : tie.Need-add-table Inv-loop μ-loop
+add-table c = search needs
+
+add-table-2 : tie.Need-add-table-2 Inv-loop μ-loop
+add-table-2 c =
+    let s = c .before .before .before .before .before in
+    let l = c .before .before .before .loop in
+    let few = mark-before-few (s .args .lines .now) (s .args .n) (l .i) (s .pre .3) (c .before .before .loop-test .taken) (l .inv .most) in
+    omega (arith, c .wide .ensures)
+
+element-write-table : tie.Need-element-write-table Inv-loop μ-loop
+element-write-table c =
+    let s = c .before .before .before .before .before in
+    let l = c .before .before .before .loop in
+    let few = mark-before-few (s .args .lines .now) (s .args .n) (l .i) (s .pre .3) (c .before .before .loop-test .taken) (l .inv .most) in
+    omega (arith, c .wide .ensures)
+
+sub-i : tie.Need-sub-i Inv-loop μ-loop
+sub-i c = search needs
+
+loop-less : tie.Need-loop-less Inv-loop μ-loop
+loop-less c = search needs
+
+loop-again : tie.Need-loop-again Inv-loop μ-loop
+loop-again c =
+    let s = c .before .before .before .before .before in
+    let l = c .before .before .before .loop in
+    let few = mark-before-few (s .args .lines .now) (s .args .n) (l .i) (s .pre .3) (c .before .before .loop-test .taken) (l .inv .most) in
+    let size = s .pre .0 in
+    placing-more (l .inv) (c .before .before .loop-test .taken) (omega arith)
+    (c .wide .ensures ∙ mark-before (s .args .lines .now) (s .args .n) (l .i) (c .before .before .loop-test .taken) (l .inv .most))
+    (omega (arith, c .wide .ensures))
+
+returns : tie.Need-returns Inv-loop μ-loop
+returns c = placing-done (c .before .loop .inv) (c .loop-test .left)
+
+pub put-places-spec : {M : Type 1} → statement M
+put-places-spec =
+    tie.close
+    (tie.spec
+    Inv-loop
+    μ-loop
+    loop-holds
+    mul-wide
+    add-wide
+    add-wide-2
+    mul-wide-2
+    shared-slice-read-wide
+    wide-requires
+    cast-table
+    add-table
+    add-table-2
+    element-write-table
+    sub-i
+    loop-less
+    loop-again
+    returns)

@@ -1,0 +1,84 @@
+-- `judging::table::put_sources` puts the sources that the marks of a line show. The invariant: those of the marks passed. Assumes nothing.
+use mathlib.Core.Path.{sym, _∙_}
+use Prim.Native.Nat.{_-_, _≤_}
+use native.Mathlib.Omega.{arith}
+use borrow.Author.Needs.{needs}
+use Rattle.judging.specs.Bytes.{marksAt}
+use Rattle.judging.proofs.ByteLaws.{mark-there}
+use Rattle.judging.proofs.PartLaws.{Sourcing, sourcing-none, sourcing-places, sourcing-more, sourcing-done, mark-few}
+use Rattle.judging.proofs.table.put_sources.Statement.{statement}
+use Rattle.judging.proofs.table.put_sources.Tie as tie
+
+abbrev Inv-loop : tie.InvT-loop
+Inv-loop table₀ at lines n count i₀ table i = (i ≤ count) × Sourcing table₀ at (marksAt lines n) i table
+
+abbrev μ-loop : tie.MeasureT-loop
+μ-loop table₀ at lines n count i₀ table i = count - i
+
+loop-holds : tie.Need-loop-holds Inv-loop μ-loop
+loop-holds c = (omega arith, sourcing-none _ _ _)
+
+mul-wide : tie.Need-mul-wide Inv-loop μ-loop
+mul-wide c = search needs
+
+add-wide : tie.Need-add-wide Inv-loop μ-loop
+add-wide c = search needs
+
+add-wide-2 : tie.Need-add-wide-2 Inv-loop μ-loop
+add-wide-2 c = search needs
+
+mul-wide-2 : tie.Need-mul-wide-2 Inv-loop μ-loop
+mul-wide-2 c = search needs
+
+shared-slice-read-wide : tie.Need-shared-slice-read-wide Inv-loop μ-loop
+shared-slice-read-wide c = search needs
+
+wide-requires : tie.Need-wide-requires Inv-loop μ-loop
+wide-requires c κs = search needs
+
+put-source-requires : tie.Need-put-source-requires Inv-loop μ-loop
+put-source-requires c κs =
+    let s = c .before .before .before .before .before .before in
+    let l = c .before .before .before .before .loop in
+    let all = s .pre .4 in
+    let e = mark-there (s .args .lines .now) (s .args .n) (l .i) (omega arith) in
+    (l .inv .1 .put .whole ∙ s .pre .0, s .pre .1, omega (arith, c .before .wide .ensures, e, mark-few (s .pre .3) (l .i)), sourcing-places (l .inv .1) (s .pre .5))
+
+add-i : tie.Need-add-i Inv-loop μ-loop
+add-i c = search needs
+
+loop-less : tie.Need-loop-less Inv-loop μ-loop
+loop-less c = search needs
+
+loop-again : tie.Need-loop-again Inv-loop μ-loop
+loop-again c =
+    let s = c .before .before .before .before .before .before .before in
+    let l = c .before .before .before .before .before .loop in
+    let all = s .pre .4 in
+    let e = mark-there (s .args .lines .now) (s .args .n) (l .i) (omega arith) in
+    (omega arith, sourcing-more (l .inv .1) (omega arith) (c .before .before .wide .ensures ∙ sym e) (omega (arith, c .before .before .wide .ensures, e, mark-few (s .pre .3) (l .i))) (c .put-source .ensures))
+
+returns : tie.Need-returns Inv-loop μ-loop
+returns c =
+    let s = c .before .before .before .pre in
+    let all = s .4 in
+    sourcing-done (c .before .loop .inv .1) (omega arith)
+
+pub put-sources-spec : {M : Type 1} → statement M
+put-sources-spec =
+    tie.close
+    (tie.spec
+    Inv-loop
+    μ-loop
+    loop-holds
+    mul-wide
+    add-wide
+    add-wide-2
+    mul-wide-2
+    shared-slice-read-wide
+    wide-requires
+    put-source-requires
+    add-i
+    loop-less
+    loop-again
+    returns)
