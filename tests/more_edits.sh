@@ -6,7 +6,7 @@ root=$(cd "$(dirname "$0")/.." && pwd)
 copy=$(mktemp -d)
 trap 'rm -rf "$copy"' EXIT
 git -C "$root" archive HEAD | tar -x -C "$copy"
-rm -rf "$copy/crates/$crate/must-fail"
+rm -rf "$copy"/crates/*/must-fail
 mv "$copy/crates/$crate/more-edits" "$copy/crates/$crate/must-fail"
 cd "$copy"
 git init -q .

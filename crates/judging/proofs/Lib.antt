@@ -8,6 +8,7 @@ pub mod FactLaws
 pub mod FoundLaws
 pub mod GraphLaws
 pub mod Judged
+pub mod KindLaws
 pub mod LinkLaws
 pub mod LinkSteps
 pub mod ListOf

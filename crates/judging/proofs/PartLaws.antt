@@ -105,17 +105,17 @@ module _ {before : List ℕ} {at : ℕ} {numbers : List ℕ} {n i : ℕ} {after 
 
 -- ---- a line
 
-set-two : (l : List ℕ) (a b x y j : ℕ) → (j ≡ a → ⊥) → (j ≡ b → ⊥) → getD (set (set l a x) b y) j 0 ≡ getD l j 0
+pub set-two : (l : List ℕ) (a b x y j : ℕ) → (j ≡ a → ⊥) → (j ≡ b → ⊥) → getD (set (set l a x) b y) j 0 ≡ getD l j 0
 set-two l a b x y j p q = getD-set-other (set l a x) b j y 0 q ∙ getD-set-other l a j x 0 p
 
 -- The first of two bytes put.
-set-first : (l : List ℕ) (a b x y : ℕ) → a < length l → (a ≡ b → ⊥) → getD (set (set l a x) b y) a 0 ≡ x
+pub set-first : (l : List ℕ) (a b x y : ℕ) → a < length l → (a ≡ b → ⊥) → getD (set (set l a x) b y) a 0 ≡ x
 set-first l a b x y h d = getD-set-other (set l a x) b a y 0 d ∙ getD-set-same l a x 0 h
 
-set-second : (l : List ℕ) (a b x y : ℕ) → b < length l → getD (set (set l a x) b y) b 0 ≡ y
+pub set-second : (l : List ℕ) (a b x y : ℕ) → b < length l → getD (set (set l a x) b y) b 0 ≡ y
 set-second l a b x y h = getD-set-same (set l a x) b y 0 (omega (arith, length-set l a x))
 
-length-two : (l : List ℕ) (a b x y : ℕ) → length (set (set l a x) b y) ≡ length l
+pub length-two : (l : List ℕ) (a b x y : ℕ) → length (set (set l a x) b y) ≡ length l
 length-two l a b x y = length-set (set l a x) b y ∙ length-set l a x
 
 pub line-put : {before : List ℕ} {at : ℕ} {marks after : List ℕ} {kind count : ℕ} → Part before (at + 2) 6 (markByte marks) after → at + 8 ≤ length before

@@ -1,4 +1,5 @@
 // Judging a sheet: whether its follow-ups come to rest.
+mod kinds;
 mod search;
 mod shape;
 mod spread;
@@ -12,6 +13,7 @@ ghost use Rattle.chase.specs.Counting.{share as shareOf};
 ghost use Rattle.chase.specs.Judge.{JudgeMeets, shapeLimit};
 ghost use Rattle.judging.specs.Answer.{judgeSays, judgeRefusalNumber, judgeRefusalLine};
 ghost use Rattle.judging.specs.Table.{SheetHeld, FirstWrong, rulesIn, tableRules, TableFits};
+ghost use Rattle.judging.specs.Firing.{ByKind};
 ghost use Rattle.judging.specs.Found.{onesIn};
 ghost use Rattle.judging.specs.Nodes.{Grid, Zeros};
 ghost use Rattle.judging.specs.Written.{InTurn, InLine};
@@ -250,6 +252,7 @@ fn judge_found(
     steps: &mut [u16],
     table: &[u8; 16384],
     rules: usize,
+    kinds: &[u16; 321],
     shapes: &[u32; 512],
     index: &[u16; 17792],
     parents: &[u16; 512],
@@ -258,7 +261,7 @@ fn judge_found(
     marks: &[u8; 256],
     count: usize,
 ) -> JudgeAnswer
-    requires { ⌜ SomeKnown (now table) rules (now shapes) (now index) (now parents) (now makers) (now headers) (now marks) count × (20480 ≤ length (now steps)) ⌝ }
+    requires { ⌜ SomeKnown (now table) rules (now shapes) (now index) (now parents) (now makers) (now headers) (now marks) count × (20480 ≤ length (now steps)) × ByKind (now table) rules (now kinds) ⌝ }
     ensures { λ r. ⌜ RightForKnown (now (table .entry)) rules (now (shapes .entry)) (now (index .entry)) (now (parents .entry)) (now (makers .entry)) (now (headers .entry))
         (now (marks .entry)) count (now (steps .entry)) r (now (steps .exit)) ⌝ }
 {
@@ -270,6 +273,7 @@ fn judge_found(
     let turning = spread::spread(
         table,
         rules,
+        kinds,
         shapes,
         index,
         count,
@@ -310,6 +314,7 @@ fn judge_rules(lines: &[u32], steps: &mut [u16], table: &[u8; 16384], rules: usi
     requires { ⌜ SheetHeld (now lines) × (20480 ≤ length (now steps)) × TableFits (now table) rules × (tableRules (now table) rules ≡ rulesIn (now lines)) ⌝ }
     ensures { λ r. ⌜ JudgeMeets shapeLimit (now (lines .entry)) (now (steps .entry)) (judgeSays r) (now (steps .exit)) ⌝ }
 {
+    let kinds = kinds::by_kind(table, rules);
     let mut shapes = [0u32; 512];
     let mut index = search::no_index();
     let mut parents = [0u16; 512];
@@ -319,6 +324,7 @@ fn judge_rules(lines: &[u32], steps: &mut [u16], table: &[u8; 16384], rules: usi
         lines,
         table,
         rules,
+        &kinds,
         &mut shapes,
         &mut index,
         &mut parents,
@@ -333,6 +339,7 @@ fn judge_rules(lines: &[u32], steps: &mut [u16], table: &[u8; 16384], rules: usi
         steps,
         table,
         rules,
+        &kinds,
         &shapes,
         &index,
         &parents,

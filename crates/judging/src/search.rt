@@ -6,6 +6,7 @@ ghost use lib.ListN.{length, getD, set};
 ghost use Rattle.patterns.specs.Pattern.{pattern};
 ghost use Rattle.judging.specs.Table.{SheetHeld, rulesIn, rowsIn, tableRules, KindFits, TableFits};
 ghost use Rattle.judging.specs.Codes.{CodeIs};
+ghost use Rattle.judging.specs.Firing.{ByKind};
 ghost use Rattle.judging.specs.Found.{Searched};
 ghost use Rattle.judging.specs.Rows.{Clear, rowNumbers, RowAt, RowsFound, RowsTried};
 use crate::shape::made;
@@ -150,6 +151,7 @@ pub(crate) fn search(
     lines: &[u32],
     table: &[u8; 16384],
     rules: usize,
+    kinds: &[u16; 321],
     shapes: &mut [u32; 512],
     // One more than the place of a shape among those found; 0 where it was not found.
     index: &mut [u16; 17792],
@@ -160,7 +162,7 @@ pub(crate) fn search(
     // The number of the H line that made it; 0 where a row has it.
     headers: &mut [u16; 512],
 ) -> Found
-    requires { ⌜ SheetHeld (now lines) × TableFits (now table) rules × (tableRules (now table) rules ≡ rulesIn (now lines)) × (length (now shapes) ≡ 512) × Clear (now index) 17792 × (length (now parents) ≡ 512) × (length (now makers) ≡ 512) × (length (now headers) ≡ 512) ⌝ }
+    requires { ⌜ SheetHeld (now lines) × TableFits (now table) rules × (tableRules (now table) rules ≡ rulesIn (now lines)) × (length (now shapes) ≡ 512) × Clear (now index) 17792 × (length (now parents) ≡ 512) × (length (now makers) ≡ 512) × (length (now headers) ≡ 512) × ByKind (now table) rules (now kinds) ⌝ }
     ensures { λ r. ⌜ Searched (rulesIn (now (lines .entry))) (rowsIn (now (lines .entry))) (now (shapes .exit)) (now (index .exit)) (now (parents .exit)) (now (makers .exit)) (now (headers .exit)) (r .fired) (r .count) (r .full) ⌝ }
 {
     let mut fired = [0u8; 256];
@@ -175,7 +177,7 @@ pub(crate) fn search(
         let shape = shapes[s] as usize;
         let kind = shape / 278 + 1;
         let digits = sheet::digits(shape % 278 + 1);
-        let mut r = next_fire(table, rules, 0, kind, digits);
+        let mut r = next_fire(table, rules, kinds, kind, kind, digits);
         while r < rules {
             fired[r] = 1;
             let heads = rule_byte(table, r, 28);
@@ -203,7 +205,7 @@ pub(crate) fn search(
                 }
                 h += 1;
             }
-            r = next_fire(table, rules, r + 1, kind, digits);
+            r = next_fire(table, rules, kinds, 65 + r, kind, digits);
         }
         s += 1;
     }

@@ -1,12 +1,12 @@
 // Shapes as numbers: 278 × (kind − 1) + (number of the pattern − 1). Whether a rule fires on a shape, and the shape that it makes.
 ghost use mathlib.Core.Path.{_≡_};
 ghost use native.Mathlib.Decide.{ℕ-discrete};
-ghost use Prim.Native.Nat.{_+_, _*_, _≤_, _<_};
+ghost use Prim.Native.Nat.{_+_, _-_, _*_, _≤_, _<_};
 ghost use lib.ListN.{length, getD};
 ghost use Rattle.patterns.specs.Pattern.{pattern};
 ghost use Rattle.judging.specs.Table.{KindFits, TableFits, rowBytes, ruleIn};
 ghost use Rattle.judging.specs.Codes.{CodeIs, FiresOn, MadeOf, DigitsFit, madeNumber};
-ghost use Rattle.judging.specs.Firing.{NextFire};
+ghost use Rattle.judging.specs.Firing.{ByKind, Place, NextFire};
 use sheet::PatternAnswer;
 
 // The number of the shape with a kind and the pattern of the numbers.
@@ -24,6 +24,12 @@ fn wide(b: u8) -> usize
     ensures { λ r. ⌜ (r ≡ b) × (r < 256) ⌝ }
 {
     b as usize
+}
+
+fn wide_rule(r: u16) -> usize
+    ensures { λ n. ⌜ n ≡ r ⌝ }
+{
+    r as usize
 }
 
 // Byte `i` of rule `r`.
@@ -63,25 +69,24 @@ fn fires(table: &[u8; 16384], rules: usize, r: usize, kind: usize, digits: [u8; 
     true
 }
 
-// The first rule from rule `r` on that fires on a record of this kind and pattern; `rules` where none does.
+// The first rule after place `p` that fires on a record of this kind and pattern; `rules` where none does. A place is a kind, before all rules, or 65 + the rule of this kind that it comes after.
 pub(crate) fn next_fire(
     table: &[u8; 16384],
     rules: usize,
-    r: usize,
+    kinds: &[u16; 321],
+    p: usize,
     kind: usize,
     digits: [u8; 6],
 ) -> usize
-    requires { ⌜ TableFits (now table) rules × (r ≤ rules) × DigitsFit digits ⌝ }
-    ensures { λ q. ⌜ NextFire (now (table .entry)) rules r kind digits q ⌝ }
+    requires { ⌜ TableFits (now table) rules × ByKind (now table) rules (now kinds) × Place (now table) rules kind p × DigitsFit digits ⌝ }
+    ensures { λ q. ⌜ NextFire (now (table .entry)) rules (p - 64) kind digits q ⌝ }
 {
-    let mut q = r;
+    let mut q = wide_rule(kinds[p]);
     while q < rules {
-        if rule_byte(table, q, 0) == kind {
-            if fires(table, rules, q, kind, digits) {
-                return q;
-            }
+        if fires(table, rules, q, kind, digits) {
+            return q;
         }
-        q += 1;
+        q = wide_rule(kinds[65 + q]);
     }
     q
 }

@@ -8,6 +8,7 @@ ghost use Prim.Native.Nat.{ℕ, _+_, _*_, _≤_, _<_};
 ghost use lib.ListN.{length};
 ghost use Rattle.judging.specs.Table.{tableRules, rowBytes, TableFits};
 ghost use Rattle.judging.specs.Codes.{shapeAt, ShapeFits};
+ghost use Rattle.judging.specs.Firing.{ByKind};
 ghost use Rattle.judging.specs.Nodes.{at, put as putAt, Grid, Zeros};
 ghost use Rattle.judging.specs.Links.{Closed, Spreads};
 ghost use Rattle.judging.specs.Passes.{Live, Done, Swept, Rests, Just, Upto, FreshE, LineBytes, HeadE, ShapeE, EachE, Onward, Inside, Walked, Last};
@@ -165,6 +166,7 @@ fn follow_head(
 fn follow_shape(
     table: &[u8; 16384],
     rules: usize,
+    kinds: &[u16; 321],
     shape: usize,
     index: &[u16; 17792],
     n: usize,
@@ -175,13 +177,13 @@ fn follow_shape(
     waiting: &mut [u8; 512],
     before: usize,
 ) -> usize
-    requires { ⌜ TableFits (now table) rules × (length (now index) ≡ 17792) × (shape < 17792) × ShapeFits (shapeAt shape) × Onward (now table) rules (now index) n shape × Live n (now generations) (now from) (now links) (now waiting) before × (7 * s + 7 ≤ n) ⌝ }
+    requires { ⌜ TableFits (now table) rules × (length (now index) ≡ 17792) × (shape < 17792) × ShapeFits (shapeAt shape) × Onward (now table) rules (now index) n shape × Live n (now generations) (now from) (now links) (now waiting) before × (7 * s + 7 ≤ n) × ByKind (now table) rules (now kinds) ⌝ }
     ensures { λ r. ⌜ Done n (ShapeE (now (table .entry)) rules (now (index .entry)) shape s) (now (generations .entry)) (now (from .entry)) (now (links .entry)) (now (waiting .entry)) before (now (generations .exit)) (now (from .exit)) (now (links .exit)) (now (waiting .exit)) r ⌝ }
 {
     let kind = shape / 278 + 1;
     let digits = sheet::digits(shape % 278 + 1);
     let mut last = before;
-    let mut r = next_fire(table, rules, 0, kind, digits);
+    let mut r = next_fire(table, rules, kinds, kind, kind, digits);
     while r < rules {
         let heads = rule_byte(table, r, 28);
         let mut h: usize = 0;
@@ -202,7 +204,7 @@ fn follow_shape(
             );
             h += 1;
         }
-        r = next_fire(table, rules, r + 1, kind, digits);
+        r = next_fire(table, rules, kinds, 65 + r, kind, digits);
     }
     last
 }
@@ -211,6 +213,7 @@ fn follow_shape(
 fn sweep(
     table: &[u8; 16384],
     rules: usize,
+    kinds: &[u16; 321],
     shapes: &[u32; 512],
     index: &[u16; 17792],
     count: usize,
@@ -219,7 +222,7 @@ fn sweep(
     links: &mut [[u16; 7]; 512],
     waiting: &mut [u8; 512],
 ) -> usize
-    requires { ⌜ TableFits (now table) rules × Closed (tableRules (now table) rules) (now shapes) (now index) count × Live (7 * count) (now generations) (now from) (now links) (now waiting) 0 × ((u v link : ℕ) → EachE (now table) rules (now shapes) (now index) count u v link → Rests (now generations) (now waiting) u v link) ⌝ }
+    requires { ⌜ TableFits (now table) rules × Closed (tableRules (now table) rules) (now shapes) (now index) count × Live (7 * count) (now generations) (now from) (now links) (now waiting) 0 × ((u v link : ℕ) → EachE (now table) rules (now shapes) (now index) count u v link → Rests (now generations) (now waiting) u v link) × ByKind (now table) rules (now kinds) ⌝ }
     ensures { λ r. ⌜ Swept (7 * count) (EachE (now (table .entry)) rules (now (shapes .entry)) (now (index .entry)) count) count (now (generations .entry)) (now (from .entry)) (now (links .entry)) (now (generations .exit)) (now (from .exit)) (now (links .exit)) (now (waiting .exit)) r ⌝ }
 {
     let n = 7 * count;
@@ -231,6 +234,7 @@ fn sweep(
             last = follow_shape(
                 table,
                 rules,
+                kinds,
                 shapes[s] as usize,
                 index,
                 n,
@@ -276,6 +280,7 @@ fn back(n: usize, generations: &[[u16; 7]; 512], from: &[[u16; 7]; 512], x: usiz
 pub(crate) fn spread(
     table: &[u8; 16384],
     rules: usize,
+    kinds: &[u16; 321],
     shapes: &[u32; 512],
     index: &[u16; 17792],
     count: usize,
@@ -283,7 +288,7 @@ pub(crate) fn spread(
     from: &mut [[u16; 7]; 512],
     links: &mut [[u16; 7]; 512],
 ) -> usize
-    requires { ⌜ TableFits (now table) rules × Closed (tableRules (now table) rules) (now shapes) (now index) count × Zeros (now generations) × Grid (now from) × Grid (now links) ⌝ }
+    requires { ⌜ TableFits (now table) rules × Closed (tableRules (now table) rules) (now shapes) (now index) count × Zeros (now generations) × Grid (now from) × Grid (now links) × ByKind (now table) rules (now kinds) ⌝ }
     ensures { λ r. ⌜ Spreads (tableRules (now (table .entry)) rules) (now (shapes .entry)) count (now (generations .exit)) (now (from .exit)) (now (links .exit)) r ⌝ }
 {
     let n = 7 * count;
@@ -293,6 +298,7 @@ pub(crate) fn spread(
         let last = sweep(
             table,
             rules,
+            kinds,
             shapes,
             index,
             count,

@@ -1,41 +1,42 @@
 -- `judging::search::search` meets its contract. Each loop keeps where the search stands; each branch is an event of it. The measures are what is left of the H lines, the rules and the 512 places. Assumes nothing.
 use mathlib.Core.Path.{_≡_, refl, _∙_}
 use mathlib.Core.Logic.{⊎-elim}
-use Prim.Native.Nat.{ℕ, _-_, _*_, _≤_, _<_}
+use Prim.Native.Nat.{ℕ, _+_, _-_, _*_, _≤_, _<_}
 use native.Mathlib.Omega.{arith}
 use borrow.Author.Needs.{needs}
 use mathlib.Core.Bool.{true, false}
 use Rattle.judging.specs.Table.{ruleIn, rowBytes, rulesIn, rowsIn}
 use Rattle.judging.specs.Codes.{FiresOn}
 use Rattle.judging.proofs.FoundLaws.{zeros, zero-at}
+use Rattle.judging.proofs.KindLaws.{first-place, fired-place, fire-from}
 use Rattle.judging.proofs.SearchLaws.{turn, Doing, Ruled, Ruling, Heading, doing-begun, ruling-first, ruling-fires, ruling-next, ruling-last, heading-last, heading-same, heading-below, heading-seen, heading-push, heading-more, try-all}
 use Rattle.judging.proofs.search.search.Statement.{statement}
 use Rattle.judging.proofs.search.search.Tie as tie
 
 abbrev Inv-loop2 : tie.InvT-loop2
-Inv-loop2 lines table rules shapes₀ index₀ parents₀ makers₀ headers₀ fired count₀ full₀ s shape kind digits r heads h₀ shapes index parents makers headers count full h =
+Inv-loop2 lines table rules kinds shapes₀ index₀ parents₀ makers₀ headers₀ fired count₀ full₀ s shape kind digits r heads h₀ shapes index parents makers headers count full h =
     (full ≡ false) × Heading (rulesIn lines) (rowsIn lines) table digits rules shape kind s r heads h shapes index parents makers headers fired count
 
 abbrev μ-loop2 : tie.MeasureT-loop2
-μ-loop2 lines table rules shapes₀ index₀ parents₀ makers₀ headers₀ fired count₀ full₀ s shape kind digits r heads h₀ shapes index parents makers headers count full h =
+μ-loop2 lines table rules kinds shapes₀ index₀ parents₀ makers₀ headers₀ fired count₀ full₀ s shape kind digits r heads h₀ shapes index parents makers headers count full h =
     heads - h
 
 abbrev Inv-loop : tie.InvT-loop
-Inv-loop lines table rules shapes₀ index₀ parents₀ makers₀ headers₀ fired₀ count₀ full₀ s shape kind digits r₀ shapes index parents makers headers fired count full r =
+Inv-loop lines table rules kinds shapes₀ index₀ parents₀ makers₀ headers₀ fired₀ count₀ full₀ s shape kind digits r₀ shapes index parents makers headers fired count full r =
     (full ≡ false) × (r < rules → FiresOn (ruleIn (rowBytes table r)) kind digits true)
     × Ruling (rulesIn lines) (rowsIn lines) table digits rules shape kind s r shapes index parents makers headers fired count
 
 abbrev μ-loop : tie.MeasureT-loop
-μ-loop lines table rules shapes₀ index₀ parents₀ makers₀ headers₀ fired₀ count₀ full₀ s shape kind digits r₀ shapes index parents makers headers fired count full r =
+μ-loop lines table rules kinds shapes₀ index₀ parents₀ makers₀ headers₀ fired₀ count₀ full₀ s shape kind digits r₀ shapes index parents makers headers fired count full r =
     rules - r
 
 abbrev Inv-search : tie.InvT-search
-Inv-search lines table rules shapes₀ index₀ parents₀ makers₀ headers₀ fired₀ count₀ full₀ s₀ shapes index parents makers headers fired count full s =
+Inv-search lines table rules kinds shapes₀ index₀ parents₀ makers₀ headers₀ fired₀ count₀ full₀ s₀ shapes index parents makers headers fired count full s =
     (full ≡ false) × (s ≤ count) × Ruled (rulesIn lines) table rules
     × Doing (rulesIn lines) (rowsIn lines) shapes index parents makers headers fired count (turn s 0 0) (256 * s)
 
 abbrev μ-search : tie.MeasureT-search
-μ-search lines table rules shapes₀ index₀ parents₀ makers₀ headers₀ fired₀ count₀ full₀ s₀ shapes index parents makers headers fired count full s =
+μ-search lines table rules kinds shapes₀ index₀ parents₀ makers₀ headers₀ fired₀ count₀ full₀ s₀ shapes index parents makers headers fired count full s =
     512 - s
 
 find-rows-requires :
@@ -78,12 +79,14 @@ next-fire-requires :
 next-fire-requires c κs =
     let i = c .before .before .before .search .inv in
     let x = ruling-first _ _ _ (i .2) (i .3) refl (c .before .before .search-test .taken) refl (c .digits .ensures) in
-    (i .2 .fits, omega arith, x .on .digits-fit)
+    let b = i .3 .kept .small _ (c .before .before .search-test .taken) in
+    (i .2 .fits, c .before .before .before .before .before .before .before .before .before .before .before .before .pre .8, first-place _ (omega arith), x .on .digits-fit)
 
 loop-holds : tie.Need-loop-holds Inv-loop2 μ-loop2 Inv-loop μ-loop Inv-search μ-search
 loop-holds c =
     let i = c .before .before .before .before .search .inv in
-    let f = c .next-fire .ensures in
+    let b = i .3 .kept .small _ (c .before .before .before .search-test .taken) in
+    let f = fire-from 0 (omega arith) (c .next-fire .ensures) in
     (i .0, f .fires, ruling-next (ruling-first _ _ _ (i .2) (i .3) refl (c .before .before .before .search-test .taken) refl (c .before .digits .ensures)) f)
 
 array-write-fired :
@@ -151,7 +154,9 @@ add-next-fire c = search needs
 
 next-fire-requires-2 :
     tie.Need-next-fire-requires-2 Inv-loop2 μ-loop2 Inv-loop μ-loop Inv-search μ-search
-next-fire-requires-2 c κs = let x = c .before .loop2 .inv .1 in let l = x .r-low in (x .ruled .fits, omega arith, x .on .digits-fit)
+next-fire-requires-2 c κs =
+    let x = c .before .loop2 .inv .1 in
+    (x .ruled .fits, c .before .before .before .before .before .before .before .before .before .before .before .before .before .before .before .before .before .before .pre .8, fired-place _ _ (x .on .kind-is) (x .applies) (x .r-low), x .on .digits-fit)
 
 loop-less : tie.Need-loop-less Inv-loop2 μ-loop2 Inv-loop μ-loop Inv-search μ-search
 loop-less c =
@@ -161,7 +166,7 @@ loop-less c =
 loop-again : tie.Need-loop-again Inv-loop2 μ-loop2 Inv-loop μ-loop Inv-search μ-search
 loop-again c =
     let i = c .before .before .loop2 .inv in
-    let f = c .next-fire2 .ensures in
+    let f = fire-from (c .before .before .before .before .before .loop .r + 1) (omega arith) (c .next-fire2 .ensures) in
     (i .0, f .fires, ruling-next (heading-last (i .1) (c .before .loop2-test .left)) f)
 
 add-s : tie.Need-add-s Inv-loop2 μ-loop2 Inv-loop μ-loop Inv-search μ-search

@@ -1,7 +1,7 @@
 -- `spread::follow_shape` meets its contract. Each loop keeps that the links of the rules, or H lines, so far were followed; a rule that is come to fires. Assumes nothing.
 use mathlib.Core.Path.{refl}
 use mathlib.Core.Bool.{true}
-use Prim.Native.Nat.{_-_, _<_, _≤_}
+use Prim.Native.Nat.{_+_, _-_, _<_, _≤_}
 use native.Mathlib.Omega.{arith}
 use borrow.Author.Needs.{needs}
 use lib.ListN.{getD}
@@ -10,27 +10,29 @@ use Rattle.judging.specs.Table.{rowBytes, ruleIn}
 use Rattle.judging.specs.Codes.{shapeAt, FiresOn, DigitsFit}
 use Rattle.judging.specs.Passes.{Done, Upto, RuleE, MadeE}
 use Rattle.judging.proofs.CodeLaws.{digits-at-fit}
+use Rattle.judging.proofs.KindLaws.{first-place, fired-place, fire-from}
+use Rattle.judging.proofs.SearchLaws.{kind-of}
 use Rattle.judging.proofs.PassLaws.{none, next, whole}
 use Rattle.judging.proofs.LinkLaws.{applies, unfired, fired, line-fits, Target, target, made-done}
 use Rattle.judging.proofs.spread.follow_shape.Statement.{statement}
 use Rattle.judging.proofs.spread.follow_shape.Tie as tie
 
 abbrev Inv-loop2 : tie.InvT-loop2
-Inv-loop2 table rules shape index n s generations₀ from₀ links₀ waiting₀ before kind digits last₀ r heads h₀ generations from links waiting last h =
+Inv-loop2 table rules kinds shape index n s generations₀ from₀ links₀ waiting₀ before kind digits last₀ r heads h₀ generations from links waiting last h =
     (h ≤ heads) × Applies (ruleIn (rowBytes table r)) (shapeAt shape)
     × Done n (Upto h (MadeE (rowBytes table r) index shape s r)) generations₀ from₀ links₀ waiting₀ last₀ generations from links waiting last
 
 abbrev μ-loop2 : tie.MeasureT-loop2
-μ-loop2 table rules shape index n s generations₀ from₀ links₀ waiting₀ before kind digits last₀ r heads h₀ generations from links waiting last h =
+μ-loop2 table rules kinds shape index n s generations₀ from₀ links₀ waiting₀ before kind digits last₀ r heads h₀ generations from links waiting last h =
     heads - h
 
 abbrev Inv-loop : tie.InvT-loop
-Inv-loop table rules shape index n s generations₀ from₀ links₀ waiting₀ before kind digits last₀ r₀ generations from links waiting last r =
+Inv-loop table rules kinds shape index n s generations₀ from₀ links₀ waiting₀ before kind digits last₀ r₀ generations from links waiting last r =
     (r ≤ rules) × (r < rules → FiresOn (ruleIn (rowBytes table r)) kind digits true)
     × Done n (Upto r (RuleE table index shape s)) generations₀ from₀ links₀ waiting₀ last₀ generations from links waiting last
 
 abbrev μ-loop : tie.MeasureT-loop
-μ-loop table rules shape index n s generations₀ from₀ links₀ waiting₀ before kind digits last₀ r₀ generations from links waiting last r =
+μ-loop table rules kinds shape index n s generations₀ from₀ links₀ waiting₀ before kind digits last₀ r₀ generations from links waiting last r =
     rules - r
 
 -- The digits fit.
@@ -66,12 +68,14 @@ digits-requires : tie.Need-digits-requires Inv-loop2 μ-loop2 Inv-loop μ-loop
 digits-requires c κs = search needs
 
 next-fire-requires : tie.Need-next-fire-requires Inv-loop2 μ-loop2 Inv-loop μ-loop
-next-fire-requires c κs = (c .before .pre .0, omega arith, digits c)
+next-fire-requires c κs =
+    let l = c .before .pre .2 in (c .before .pre .0, c .before .pre .7, first-place _ (omega arith), digits c)
 
 loop-holds : tie.Need-loop-holds Inv-loop2 μ-loop2 Inv-loop μ-loop
 loop-holds c =
     let s = c .before .before in
-    let f = c .next-fire .ensures in (f .within, f .fires, unfired (s .pre .3) (c .before .digits .ensures) f (none (s .pre .5)))
+    let l = s .pre .2 in
+    let f = fire-from 0 (omega arith) (c .next-fire .ensures) in (f .within, f .fires, unfired (s .pre .3) (c .before .digits .ensures) f (none (s .pre .5)))
 
 rule-byte-requires : tie.Need-rule-byte-requires Inv-loop2 μ-loop2 Inv-loop μ-loop
 rule-byte-requires c κs =
@@ -157,7 +161,12 @@ add-next-fire c = search needs
 next-fire-requires-2 : tie.Need-next-fire-requires-2 Inv-loop2 μ-loop2 Inv-loop μ-loop
 next-fire-requires-2 c κs =
     let b = c .before .before .before in
-    let l = b .loop-test .taken in (b .before .before .before .before .pre .0, omega arith, digits (b .before .before .before))
+    let s = b .before .before .before .before in (
+      s .pre .0,
+      s .pre .7,
+      fired-place (s .args .shape) (b .before .loop .r) (kind-of (s .args .shape)) (c .before .loop2 .inv .1) (b .loop-test .taken),
+      digits (b .before .before .before),
+    )
 
 loop-less : tie.Need-loop-less Inv-loop2 μ-loop2 Inv-loop μ-loop
 loop-less c =
@@ -173,7 +182,7 @@ loop-again c =
     let i = d .loop2 .inv in
     let a = i .0 in
     let l = c .before .loop2-test .left in
-    let f = c .next-fire2 .ensures in
+    let f = fire-from (b .loop .r + 1) (omega arith) (c .next-fire2 .ensures) in
     (f .within, f .fires, unfired (s .pre .3) (b .before .before .digits .ensures) f (next (b .loop .inv .2) (fired (i .1) (whole (i .2) (omega arith) (omega arith)))))
 
 returns : tie.Need-returns Inv-loop2 μ-loop2 Inv-loop μ-loop

@@ -10,11 +10,11 @@ use Rattle.judging.proofs.spread.spread.Statement.{statement}
 use Rattle.judging.proofs.spread.spread.Tie as tie
 
 abbrev Inv-loop : tie.InvT-loop
-Inv-loop table rules shapes index count generations₀ from₀ links₀ n waiting₀ turning₀ generations from links waiting turning =
+Inv-loop table rules kinds shapes index count generations₀ from₀ links₀ n waiting₀ turning₀ generations from links waiting turning =
     (turning ≡ 0) × Round table rules shapes index count generations from links waiting
 
 abbrev μ-loop : tie.MeasureT-loop
-μ-loop table rules shapes index count generations₀ from₀ links₀ n waiting₀ turning₀ generations from links waiting turning =
+μ-loop table rules kinds shapes index count generations₀ from₀ links₀ n waiting₀ turning₀ generations from links waiting turning =
     7 * count * (7 * count) - sumTo (7 * count) (at generations)
 
 mul-n : tie.Need-mul-n Inv-loop μ-loop
@@ -28,7 +28,7 @@ loop-holds c =
 
 sweep-requires : tie.Need-sweep-requires Inv-loop μ-loop
 sweep-requires c κs =
-    (c .before .before .before .before .before .pre .0, c .before .before .before .before .before .pre .1, c .before .before .before .before .loop .inv .1 .live, c .before .before .before .before .loop .inv .1 .rests)
+    (c .before .before .before .before .before .pre .0, c .before .before .before .before .before .pre .1, c .before .before .before .before .loop .inv .1 .live, c .before .before .before .before .loop .inv .1 .rests, c .before .before .before .before .before .pre .5)
 
 raised-requires : tie.Need-raised-requires Inv-loop μ-loop
 raised-requires c κs =
