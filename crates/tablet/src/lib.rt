@@ -3,7 +3,7 @@ mod bytes;
 
 ghost use mathlib.Core.Path.{_≡_};
 ghost use mathlib.Core.List.{_++_};
-ghost use Prim.Native.Nat.{_+_, _*_, _≤_, min};
+ghost use Prim.Native.Nat.{_+_, _*_, _/_, _≤_, min};
 ghost use lib.ListN.{length, take, drop};
 ghost use Rattle.sheet.specs.Answer.{refusalSays};
 ghost use Rattle.chase.specs.Judge.{judged as judgedAs, refuses as refusedAs};
@@ -81,6 +81,13 @@ fn room_for_lines() -> [u32; 18952]
     [0; 18952]
 }
 
+// Room for 256 lines: to clear less for a small sheet.
+fn room_for_few_lines() -> [u32; 2048]
+    ensures { λ r. ⌜ length r ≡ 2048 ⌝ }
+{
+    [0; 2048]
+}
+
 // Room for 4,096 steps.
 fn room_for_steps() -> [u16; 20480]
     ensures { λ r. ⌜ length r ≡ 20480 ⌝ }
@@ -96,8 +103,8 @@ fn least(a: usize, b: usize) -> usize
 
 // Decodes the lines, one more than a sheet can have at most, and counts their numbers.
 fn decode_lines(lines: &[u8], numbers: &mut [u32]) -> usize
-    requires { ⌜ length (now numbers) ≡ 18952 ⌝ }
-    ensures { λ r. ⌜ (r ≤ 18952) × (take r (now (numbers .exit)) ≡ take 18952 (numbersOf 4 (now (lines .entry)))) ⌝ }
+    requires { ⌜ min (length (now lines) / 4) 18952 ≤ length (now numbers) ⌝ }
+    ensures { λ r. ⌜ (r ≤ length (now (numbers .entry))) × (take r (now (numbers .exit)) ≡ take 18952 (numbersOf 4 (now (lines .entry)))) ⌝ }
 {
     let count = least(lines.len() / 4, 18952);
     bytes::decode(lines, numbers, count);
@@ -120,17 +127,44 @@ pub extern "C" fn followup_read(text: &[u8], lines: &mut [u8]) -> Reply
     }
 }
 
+// Writes lines, with room for their numbers.
+fn write_lines(lines: &[u8], numbers: &mut [u32], text: &mut [u8]) -> Reply
+    requires { ⌜ min (length (now lines) / 4) 18952 ≤ length (now numbers) ⌝ }
+    ensures { λ r. ⌜ WritesBytes (now (lines .entry)) (now (text .entry)) r (now (text .exit)) ⌝ }
+{
+    let count = decode_lines(lines, numbers);
+    match sheet::write(&numbers[..count], text) {
+        WriteAnswer::Bytes(size) => counts(size),
+        WriteAnswer::Refused(refusal) => refuses(refusal),
+    }
+}
+
+// Writes up to 256 lines.
+fn write_few(lines: &[u8], text: &mut [u8]) -> Reply
+    requires { ⌜ length (now lines) / 4 ≤ 2048 ⌝ }
+    ensures { λ r. ⌜ WritesBytes (now (lines .entry)) (now (text .entry)) r (now (text .exit)) ⌝ }
+{
+    let mut numbers = room_for_few_lines();
+    write_lines(lines, &mut numbers, text)
+}
+
+// Writes any number of lines.
+fn write_many(lines: &[u8], text: &mut [u8]) -> Reply
+    ensures { λ r. ⌜ WritesBytes (now (lines .entry)) (now (text .entry)) r (now (text .exit)) ⌝ }
+{
+    let mut numbers = room_for_lines();
+    write_lines(lines, &mut numbers, text)
+}
+
 // Writes lent lines, 32 bytes each, as text.
 #[no_mangle]
 pub extern "C" fn followup_write(lines: &[u8], text: &mut [u8]) -> Reply
     ensures { λ r. ⌜ WritesBytes (now (lines .entry)) (now (text .entry)) r (now (text .exit)) ⌝ }
 {
-    let mut numbers = room_for_lines();
-    let count = decode_lines(lines, &mut numbers);
-    match sheet::write(&numbers[..count], text) {
-        WriteAnswer::Bytes(size) => counts(size),
-        WriteAnswer::Refused(refusal) => refuses(refusal),
+    if lines.len() / 4 > 2048 {
+        return write_many(lines, text);
     }
+    write_few(lines, text)
 }
 
 // The number of a record's pattern; its fields are four bytes each.
@@ -185,16 +219,12 @@ fn no_judgement(refusal: u32, line: usize) -> JudgeReply
     }
 }
 
-// Judges lent lines, 32 bytes each. At least 4,096 steps, ten bytes each, are lent for the trail and the loop.
-#[no_mangle]
-pub extern "C" fn followup_judge(lines: &[u8], steps: &mut [u8]) -> JudgeReply
+// Judges lines, with room for their numbers.
+fn judge_lines(lines: &[u8], numbers: &mut [u32], steps: &mut [u8]) -> JudgeReply
+    requires { ⌜ (min (length (now lines) / 4) 18952 ≤ length (now numbers)) × (20480 ≤ length (now steps) / 2) ⌝ }
     ensures { λ r. ⌜ JudgesBytes (now (lines .entry)) (now (steps .entry)) r (now (steps .exit)) ⌝ }
 {
-    if steps.len() / 2 < 20480 {
-        return no_judgement(12, 0);
-    }
-    let mut numbers = room_for_lines();
-    let count = decode_lines(lines, &mut numbers);
+    let count = decode_lines(lines, numbers);
     let mut written = room_for_steps();
     match judging::judge(&numbers[..count], &mut written) {
         JudgeAnswer::Settles(f) => judged(1, f, &written, steps),
@@ -204,4 +234,36 @@ pub extern "C" fn followup_judge(lines: &[u8], steps: &mut [u8]) -> JudgeReply
             no_judgement(said.number as u32, said.line)
         }
     }
+}
+
+// Judges up to 256 lines.
+fn judge_few(lines: &[u8], steps: &mut [u8]) -> JudgeReply
+    requires { ⌜ (length (now lines) / 4 ≤ 2048) × (20480 ≤ length (now steps) / 2) ⌝ }
+    ensures { λ r. ⌜ JudgesBytes (now (lines .entry)) (now (steps .entry)) r (now (steps .exit)) ⌝ }
+{
+    let mut numbers = room_for_few_lines();
+    judge_lines(lines, &mut numbers, steps)
+}
+
+// Judges any number of lines.
+fn judge_many(lines: &[u8], steps: &mut [u8]) -> JudgeReply
+    requires { ⌜ 20480 ≤ length (now steps) / 2 ⌝ }
+    ensures { λ r. ⌜ JudgesBytes (now (lines .entry)) (now (steps .entry)) r (now (steps .exit)) ⌝ }
+{
+    let mut numbers = room_for_lines();
+    judge_lines(lines, &mut numbers, steps)
+}
+
+// Judges lent lines, 32 bytes each. At least 4,096 steps, ten bytes each, are lent for the trail and the loop.
+#[no_mangle]
+pub extern "C" fn followup_judge(lines: &[u8], steps: &mut [u8]) -> JudgeReply
+    ensures { λ r. ⌜ JudgesBytes (now (lines .entry)) (now (steps .entry)) r (now (steps .exit)) ⌝ }
+{
+    if steps.len() / 2 < 20480 {
+        return no_judgement(12, 0);
+    }
+    if lines.len() / 4 > 2048 {
+        return judge_many(lines, steps);
+    }
+    judge_few(lines, steps)
 }
