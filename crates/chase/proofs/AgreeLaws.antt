@@ -1,5 +1,6 @@
 -- Fields agree with marks just if there are as many and they are equal wherever the marks are. Assumes nothing.
 use mathlib.Core.Path.{_≡_, refl, sym, subst}
+use mathlib.Core.Bool.{false≢true}
 use mathlib.Core.List.{List, [], _∷_, map}
 use mathlib.Core.Option.{Option, none, some, Option·none-ne-some}
 use Prim.Native.Nat.{ℕ, suc}
@@ -8,7 +9,6 @@ use native.Mathlib.Omega.{arith}
 use lib.ListN.{length, getElem?}
 use Rattle.patterns.specs.Pattern.{pick}
 use Rattle.chase.specs.Lists.{All2}
-use Rattle.chase.proofs.PlaceLaws.{zero-one}
 use Rattle.chase.specs.Rules.{nth}
 use Rattle.chase.specs.Making.{valueOf, Agree}
 use Rattle.chase.proofs.MakingLaws.{OptR, mark-has-value}
@@ -18,8 +18,8 @@ use Rattle.chase.proofs.StepLaws.{nth-in, nth-rel}
 module _ {A B C : Type 0} (f : A → C) (g : B → C) where
   maps-each : (xs : List A) (ys : List B) → map f xs ≡ map g ys → All2 (λ x y. f x ≡ g y) xs ys
   maps-each [] [] e = tt
-  maps-each [] (y ∷ ys) e = zero-one cc
-  maps-each (x ∷ xs) [] e = zero-one cc
+  maps-each [] (y ∷ ys) e = false≢true cc
+  maps-each (x ∷ xs) [] e = false≢true cc
   maps-each (x ∷ xs) (y ∷ ys) e = (cc, maps-each xs ys cc)
 
   each-maps : (xs : List A) (ys : List B) → All2 (λ x y. f x ≡ g y) xs ys → map f xs ≡ map g ys

@@ -6,6 +6,7 @@ use mathlib.Core.Option.{some}
 use Prim.Native.Nat.{ℕ, _≤_}
 use native.Mathlib.Omega.{arith}
 use lib.ListN.{length}
+use Rattle.patterns.proofs.PatternLaws.{length-pattern}
 use Rattle.sheet.specs.Line.{Line}
 use Rattle.chase.specs.Lists.{In, All2}
 use Rattle.chase.specs.Rules.{Head, Rule, rowLines, nth}
@@ -17,7 +18,7 @@ use Rattle.chase.specs.Judge.{Bounded}
 use Rattle.chase.specs.Certificate.{asRecord, shapeMade, largest, newGeneration, Listed, shapesOf, deepestOf, Covers, ClosedList}
 use Rattle.chase.proofs.ListLaws.{in-map, map-in}
 use Rattle.chase.proofs.MakingLaws.{makes-rel}
-use Rattle.chase.proofs.ShapeLaws.{pattern-length, fires-shape, made-shapeMade}
+use Rattle.chase.proofs.ShapeLaws.{fires-shape, made-shapeMade}
 use Rattle.chase.proofs.RunLaws.{keep-run-start}
 use Rattle.chase.proofs.StepLaws.{as-record-shape}
 
@@ -67,7 +68,7 @@ deepest-below (v ∷ vs) (n ∷ ns) a = omega (arith, a .0, deepest-below vs ns 
 fresh-below : (n m : ℕ) (vs : List Value) (ns : List ℕ) → All2 Below vs ns → Below (freshOf n m vs) (newGeneration m ns)
 fresh-below n m vs ns a = omega (arith, deepest-below vs ns a)
 
-largest-deepest : (list : List Listed) (l : Listed) → In l list → largest (l .numbers) ≤ deepestOf list
+pub largest-deepest : (list : List Listed) (l : Listed) → In l list → largest (l .numbers) ≤ deepestOf list
 largest-deepest [] l i = absurd i
 largest-deepest (k ∷ list) l (inl p) = omega (arith, ap (λ (l : Listed). largest (l .numbers)) p)
 largest-deepest (k ∷ list) l (inr i) = omega (arith, largest-deepest list l i)
@@ -121,7 +122,7 @@ module _ (rules : List Rule) (rows : List Record) (list : List Listed) (c : Clos
           has = s;
           above =
               all-zero-below (x .fields) (s .entry .numbers)
-              (omega (arith, c .sized (s .entry) (s .listed), ap (λ (u : Shape). length (u .pattern)) (s .shape), pattern-length Value-discrete (x .fields)))
+              (omega (arith, c .sized (s .entry) (s .listed), ap (λ (u : Shape). length (u .pattern)) (s .shape), length-pattern Value-discrete (x .fields)))
               (λ v j. t .zero x v i j);
         }
 

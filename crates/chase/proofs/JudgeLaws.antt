@@ -1,5 +1,6 @@
 -- The contract of Judge leaves one answer: a sheet is refused in one way or it is judged, and then its figures are determined. Assumes nothing.
 use mathlib.Core.Path.{_≡_, refl, sym, _∙_, ap, subst}
+use mathlib.Core.Bool.{false≢true}
 use mathlib.Core.Logic.{_↔_}
 use mathlib.Core.List.{List}
 use Prim.Native.Nat.{ℕ, _*_, _≤_}
@@ -7,7 +8,6 @@ use native.Mathlib.Omega.{arith}
 use lib.ListN.{length, take, drop}
 use Rattle.sheet.specs.Line.{Line}
 use Rattle.patterns.specs.Outcome.{good, refused}
-use Rattle.chase.proofs.PlaceLaws.{zero-one}
 use Rattle.sheet.specs.Write.{sheetHeld}
 use Rattle.chase.specs.Rules.{Rule, rulesOf}
 use Rattle.chase.specs.Making.{Record}
@@ -38,7 +38,7 @@ module _ (limit : ℕ) (numbers before : List ℕ) where
   lines-one ls ms p q = cc
 
   good-or-refused : (ls : List Line) (n k : ℕ) → sheetHeld numbers ≡ good ls → sheetHeld numbers ≡ refused n k → ⊥
-  good-or-refused ls n k p q = zero-one cc
+  good-or-refused ls n k p q = false≢true cc
 
   -- What a right answer says of the sheet.
   module _ (v : Verdict) (now : List ℕ) (lines : List Line) (r : Right limit numbers before v now) (e : sheetHeld numbers ≡ good lines) where

@@ -1,6 +1,5 @@
 -- The pages for a reader are Generations, Theorems, CaseTheorem and Errors; the others are the laws that the proofs rest on.
 pub mod Generations
-pub mod PlaceLaws
 pub mod ListLaws
 pub mod MakingLaws
 pub mod ShapeLaws

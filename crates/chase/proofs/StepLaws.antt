@@ -1,28 +1,38 @@
 -- Laws of steps: what a step asks of a record depends on the record's shape alone; the firings that steps stand for fit; the number that carried and fresh steps follow gets a later generation with each fresh one. Assumes nothing.
 use mathlib.Core.Path.{_≡_, refl, sym, _∙_, ap, subst}
+use mathlib.Core.Bool.{false≢true}
 use mathlib.Core.Logic.{_⊎_, inl, inr}
 use mathlib.Core.List.{List, [], _∷_, _++_, map}
 use mathlib.Core.Option.{Option, none, some, Option·none-ne-some}
-use Prim.Native.Nat.{ℕ, zero, suc, _+_, _≤_}
+use Prim.Native.Nat.{ℕ, zero, suc, _+_, _*_, _≤_}
 use native.Mathlib.Omega.{arith}
-use lib.ListN.{getElem?}
+use lib.ListN.{length, getElem?}
+use Rattle.patterns.proofs.PatternLaws.{digit, digit-inj}
 use Rattle.chase.specs.Lists.{In, All2}
-use Rattle.chase.proofs.PlaceLaws.{digit, digit-inj, zero-one}
 use Rattle.chase.specs.Rules.{Rule, nth}
 use Rattle.chase.specs.Value.{Value, table, Value-discrete, generation}
 use Rattle.chase.specs.Making.{Record, made, freshOf, orElse, valueOf, carriedValues}
 use Rattle.chase.specs.Run.{Firing, fire, run, Fits, AllFit}
 use Rattle.chase.specs.Shape.{Shape, shapeOf}
-use Rattle.chase.specs.Steps.{Step, after, Each, lastOf, firedOn, firingsOf, Goes, Reaching, Carried, Fresh, FreshAlone, Moves, Follow, lastTo, lastFresh, valueAt, placesOf}
+use Rattle.chase.specs.Steps.{Step, stepNumbers, after, Each, lastOf, firedOn, firingsOf, Goes, Reaching, Carried, Fresh, FreshAlone, Moves, Follow, lastTo, lastFresh, valueAt, placesOf}
 use Rattle.chase.specs.Certificate.{asRecord, shapeAfter, EachShape, lastShape, shapesOn, placesOn, freshSteps}
 use Rattle.chase.proofs.MakingLaws.{OptR, valueOf-rel, valueOf-in-marks, agree-has-value, no-mark-no-value, in-carriedValues, carriedValues-in}
 use Rattle.chase.proofs.Generations.{generation-below}
 use Rattle.chase.proofs.ShapeLaws.{shape-as-record, fires-shape, made-shape}
 use Rattle.chase.proofs.RunLaws.{fire-adds}
 
+-- Steps as numbers.
+pub length-numbers : (ss : List Step) → length (stepNumbers ss) ≡ 5 * length ss
+length-numbers [] = refl
+length-numbers (s ∷ ss) = omega (arith, length-numbers ss)
+
+pub numbers-append : (ss ts : List Step) → stepNumbers (ss ++ ts) ≡ stepNumbers ss ++ stepNumbers ts
+numbers-append [] ts = refl
+numbers-append (s ∷ ss) ts = rw (numbers-append ss ts)
+
 -- Elements by their numbers, which count from 1.
 module _ {A : Type 0} where
-  element-in : (l : List A) (i : ℕ) (x : A) → getElem? l i ≡ some x → In x l
+  pub element-in : (l : List A) (i : ℕ) (x : A) → getElem? l i ≡ some x → In x l
   element-in [] i x e = absurd (Option·none-ne-some x e)
   element-in (y ∷ l) zero x e = inl cc
   element-in (y ∷ l) (suc i) x e = inr (element-in l i x e)
@@ -61,8 +71,8 @@ module _ {A B : Type 0} (R : A → B → Type 0) where
 
 same-maps : {A B C : Type 0} (f : A → C) (g : B → C) (xs : List A) (ys : List B) → map f xs ≡ map g ys → All2 (λ x y. f x ≡ g y) xs ys
 same-maps f g [] [] e = tt
-same-maps f g [] (y ∷ ys) e = zero-one cc
-same-maps f g (x ∷ xs) [] e = zero-one cc
+same-maps f g [] (y ∷ ys) e = false≢true cc
+same-maps f g (x ∷ xs) [] e = false≢true cc
 same-maps f g (x ∷ xs) (y ∷ ys) e = (cc, same-maps f g xs ys cc)
 
 -- In two records of one shape the same fields and marks have equal values.

@@ -1,5 +1,6 @@
 -- The theorems on the chase that a reader relies on. Each stands first as a sentence; its proof cites the laws. Assumes nothing.
 use mathlib.Core.Path.{_≡_, ap}
+use mathlib.Core.Bool.{false≢true}
 use mathlib.Core.Logic.{_↔_, _⊎_}
 use mathlib.Core.List.{List, _∷_}
 use Prim.Native.Nat.{ℕ, _≤_}
@@ -7,7 +8,6 @@ use lib.ListN.{length}
 use Rattle.sheet.specs.Line.{Line}
 use Rattle.patterns.specs.Outcome.{good}
 use Rattle.chase.specs.Lists.{In}
-use Rattle.chase.proofs.PlaceLaws.{zero-one}
 use Rattle.sheet.specs.Write.{sheetHeld}
 use Rattle.chase.specs.Rules.{Rule, rulesOf, nth}
 use Rattle.chase.specs.Value.{Value, table, generation}
@@ -36,7 +36,7 @@ fresh-fixed n m k l cs ds = (freshOf-injective n m k l cs ds, λ s. let (p, q, r
 
 -- A fresh number equals no table value.
 pub fresh-not-table : (n m k : ℕ) (cs : List Value) → freshOf n m cs ≡ table k → ⊥
-fresh-not-table n m k cs e = zero-one cc
+fresh-not-table n m k cs e = false≢true cc
 
 -- FIRING
 

@@ -1,6 +1,6 @@
 -- The laws of columns: a column has nine bytes, a number's column is read as the number, and nothing else is read as it. Assumes nothing.
 use mathlib.Core.Path.{_≡_, refl, _∙_}
-use mathlib.Core.Bool.{Bool, true, false, cond, _&&_}
+use mathlib.Core.Bool.{Bool, true, false, cond, _&&_, and-eq-true-iff}
 use mathlib.Core.List.{List, [], _∷_, _++_}
 use mathlib.Core.Option.{Option, none, some}
 use Prim.Native.Nat.{ℕ, zero, suc, _+_, _-_, _*_, _/_, _%_, _^_, _≤_, _<_}
@@ -42,20 +42,17 @@ decimal-column n h =
     decimal-append 0 (places 8 (n / 10)) ((48 + (n % 10)) ∷ [])
     ∙ rw (decimal-places 8 (n / 10) small, add-sub-cancel-left) (div-add-mod n 10)
 
-same-refl : (xs : List ℕ) → same xs xs ≡ true
+-- A list is the same as itself alone.
+pub same-refl : (xs : List ℕ) → same xs xs ≡ true
 same-refl [] = refl
 same-refl (x ∷ xs) = rw (eq-eqb x x refl) (same-refl xs)
 
-both-true : (a b : Bool) → a && b ≡ true → (a ≡ true) × (b ≡ true)
-both-true true b e = (refl, e)
-both-true false b e = (e, cc)
-
-same-true : (xs ys : List ℕ) → same xs ys ≡ true → xs ≡ ys
+pub same-true : (xs ys : List ℕ) → same xs ys ≡ true → xs ≡ ys
 same-true [] [] e = refl
 same-true [] (y ∷ ys) e = cc
 same-true (x ∷ xs) [] e = cc
 same-true (x ∷ xs) (y ∷ ys) e =
-    let both = both-true (eqb x y) (same xs ys) e in
+    let both = and-eq-true-iff (eqb x y) (same xs ys) .0 e in
     let head = eqb-true x y (both .0) in
     let tail = same-true xs ys (both .1) in
     cc

@@ -15,7 +15,9 @@ use Rattle.chase.specs.Lists.{In}
 use Rattle.chase.specs.Rules.{Head, Rule, nth}
 use Rattle.chase.specs.Making.{makes}
 use Rattle.chase.specs.Simplification.{Applies}
+use Rattle.chase.proofs.CountLaws.{element-below}
 use Rattle.chase.proofs.MakingLaws.{makes-length}
+use Rattle.chase.proofs.StepLaws.{element-in}
 use Rattle.judging.specs.Table.{rowBytes, ruleIn, tableRules, firstPlace, later, TableFits}
 use Rattle.judging.specs.Codes.{shapeAt, codeOf, shapeFrom, newDigit, ShapeFits}
 use Rattle.judging.specs.Found.{shapeNo}
@@ -27,16 +29,6 @@ use Rattle.judging.proofs.LinkLaws.{width-is, width-few, mark-is, place
 use Rattle.judging.proofs.EndLaws.{Sane}
 
 -- LISTS.
-element-below : {A : Type 0} (l : List A) (i : ℕ) (x : A) → getElem? l i ≡ some x → i < length l
-element-below [] i x e = let z : _≡_ {A = ℕ} 0 1 = cc in absurd (omega arith)
-element-below (y ∷ l) zero x e = omega arith
-element-below (y ∷ l) (suc i) x e = omega (arith, element-below l i x e)
-
-element-in : {A : Type 0} (l : List A) (i : ℕ) (x : A) → getElem? l i ≡ some x → In x l
-element-in [] i x e = let z : _≡_ {A = ℕ} 0 1 = cc in absurd (omega arith)
-element-in (y ∷ l) zero x e = let q : x ≡ y = cc in inl q
-element-in (y ∷ l) (suc i) x e = inr (element-in l i x e)
-
 element-at : (l : List ℕ) (i : ℕ) → i < length l → getElem? l i ≡ some (getD l i 0)
 element-at [] i h = absurd (omega arith)
 element-at (y ∷ l) zero h = refl
@@ -281,7 +273,7 @@ module _ {table : List ℕ} {rules : ℕ} (tf : TableFits table rules) where
         (l .from-is) (l .to-is) (l .code-is)
 
     -- Links join nodes of the first `count` shapes.
-    field-to : (b : List ℕ) (r h s t j u v link : ℕ) → FieldE b r h s t j u v link → v ≡ 7 * t + j + 1
+    field-to : (b : List ℕ) (r h s t j u v link : ℕ) → FieldE b r h s t j u v link → v ≡ 7 * t + (j + 1)
     field-to b r h s t j u v link (carriedE d e) = e .to-is
     field-to b r h s t j u v link (freshE d e) = e .here .just .to-is
 

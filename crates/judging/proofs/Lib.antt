@@ -6,6 +6,7 @@ pub mod Counts
 pub mod EndLaws
 pub mod FactLaws
 pub mod FoundLaws
+pub mod FreshLaws
 pub mod GraphLaws
 pub mod Judged
 pub mod KindLaws
@@ -13,6 +14,7 @@ pub mod LinkLaws
 pub mod LinkSteps
 pub mod ListOf
 pub mod NodeLaws
+pub mod NoteLaws
 pub mod PartLaws
 pub mod PassLaws
 pub mod PatternPlaces

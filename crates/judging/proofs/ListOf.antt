@@ -7,6 +7,7 @@ use Prim.Native.Nat.{ℕ, zero, suc, _+_, _*_, _≤_, _<_}
 use native.Mathlib.Decide.{ℕ-discrete}
 use native.Mathlib.Omega.{arith}
 use lib.ListN.{length, getElem?}
+use Rattle.patterns.proofs.PatternLaws.{length-pattern}
 use Rattle.chase.specs.Lists.{In, All, All2, in?}
 use Rattle.chase.specs.Rules.{Head, Rule, nth}
 use Rattle.chase.specs.Making.{Record, Fires, valueOf, orElse, carriedMarks, carriedValues, makes}
@@ -15,8 +16,9 @@ use Rattle.chase.specs.Simplification.{Applies}
 use Rattle.chase.specs.Certificate.{asRecord, shapeMade, largest, newGeneration, Listed, deepestOf, Covers, ClosedList}
 use Rattle.chase.proofs.ListLaws.{in-map, map-in, all-in}
 use Rattle.chase.proofs.MakingLaws.{mark-has-value, no-mark-no-value, agree-length, carriedValues-in, makes-length}
-use Rattle.chase.proofs.ShapeLaws.{pattern-length, as-record-applies, shapeMade-digits}
+use Rattle.chase.proofs.ShapeLaws.{as-record-applies, shapeMade-digits}
 use Rattle.chase.proofs.StepLaws.{nth-in}
+use Rattle.chase.proofs.BoundLaws.{largest-deepest}
 use Rattle.judging.specs.Table.{RuleFits, firstPlace}
 use Rattle.judging.specs.Codes.{ShapeFits, shapeFrom, newDigit}
 use Rattle.judging.specs.Found.{shapeNo, Kept, Whole}
@@ -88,11 +90,6 @@ largest-has [] n i = absurd i
 largest-has (m ∷ ns) n (inl p) = omega arith
 largest-has (m ∷ ns) n (inr i) = omega (arith, largest-has ns n i)
 
-deepest-has : (list : List Listed) (l : Listed) → In l list → largest (l .numbers) ≤ deepestOf list
-deepest-has [] l i = absurd i
-deepest-has (k ∷ list) l (inl p) = omega (arith, ap (λ (l : Listed). largest (l .numbers)) p)
-deepest-has (k ∷ list) l (inr i) = omega (arith, deepest-has list l i)
-
 largest-most : (ns : List ℕ) (x : ℕ) → ((n : ℕ) → In n ns → n ≤ x) → largest ns ≤ x
 largest-most [] x h = omega arith
 largest-most (n ∷ ns) x h = omega (arith, h n (inl refl), largest-most ns x (λ m i. h m (inr i)))
@@ -105,7 +102,7 @@ deepest-most (l ∷ list) x h = omega (arith, h l (inl refl), deepest-most list 
 pub made-width : (r : Rule) (s t : Shape) (h : Head) → shapeFrom r s h ≡ t → length (t .pattern) ≡ length (h .marks)
 made-width r s t h e =
     ap (λ (u : Shape). length (u .pattern)) (sym e)
-    ∙ pattern-length ℕ-discrete (makes (newDigit (length (s .pattern))) r (s .pattern) (h .marks))
+    ∙ length-pattern ℕ-discrete (makes (newDigit (length (s .pattern))) r (s .pattern) (h .marks))
     ∙ makes-length r (s .pattern) (newDigit (length (s .pattern))) (h .marks)
 
 module _ (rules : List Rule) (codes : List ℕ) (count : ℕ) (fit : All RuleFits rules) (G : ℕ → ℕ) (stable : Stable (Link rules codes count) G) where
@@ -261,7 +258,7 @@ number-listed rules codes count fit fits generations u v code l =
       arith,
       ap (at generations) node,
       largest-has (here .numbers) (at generations (7 * l .t + 1 + l .j)) i,
-      deepest-has (listOf codes generations count) here
+      largest-deepest (listOf codes generations count) here
           (in-map (entryAt codes (at generations)) (l .t) (below count) (in-below count (l .t) (l .t-below))),
     )
 

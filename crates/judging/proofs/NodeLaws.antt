@@ -10,6 +10,22 @@ use lib.Seq.{getD-set-same, getD-set-other}
 use Rattle.judging.specs.Nodes.{at, put, Grid}
 use Rattle.judging.specs.Passes.{sumTo}
 
+-- The node of field p of shape s.
+module _ (s p : ℕ) (low : p < 7) where
+  node-shape : (7 * s + p) / 7 ≡ s
+  node-shape = omega arith
+
+  node-field : (7 * s + p) % 7 ≡ p
+  node-field = omega arith
+
+pub at-field : (g : List (List ℕ)) (s p : ℕ) → p < 7 → at g (7 * s + p) ≡ getD (getD g s []) p 0
+unfolding at
+at-field g s p l = rw (node-shape s p l, node-field s p l) refl
+
+pub put-field : (g : List (List ℕ)) (s p x : ℕ) → p < 7 → put g (7 * s + p) x ≡ set g s (set (getD g s []) p x)
+unfolding put
+put-field g s p x l = rw (node-shape s p l, node-field s p l) refl
+
 -- One value changed.
 pub record Change (f g : ℕ → ℕ) (v a : ℕ) : Type 0 where
   pub same : g v ≡ a

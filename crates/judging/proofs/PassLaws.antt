@@ -1,14 +1,14 @@
 -- The laws of following links: the same few for each level of loops, and one for each event. Assumes nothing.
-use mathlib.Core.Path.{_≡_, refl, subst, ap, _∙_}
+use mathlib.Core.Path.{_≡_, refl, sym, subst, ap, _∙_}
 use mathlib.Core.List.{List}
 use mathlib.Core.Logic.{_⊎_, inl, inr, ⊎-elim, by-cases}
-use Prim.Native.Nat.{ℕ, _+_, _/_, _≤_, _<_}
+use Prim.Native.Nat.{ℕ, _+_, _*_, _/_, _≤_, _<_}
 use native.Mathlib.Omega.{arith}
 use native.Mathlib.Decide.{ℕ-discrete}
 use lib.ListN.{getD, set, length-set}
 use lib.Seq.{getD-set-same, getD-set-other}
 use Rattle.judging.specs.Nodes.{at, put, weight}
-use Rattle.judging.specs.Passes.{Live, Done, Same, Rests, Just, Upto, sumTo}
+use Rattle.judging.specs.Passes.{Live, Done, Same, Rests, Just, Upto, FreshE, Best, sumTo}
 use Rattle.judging.proofs.NodeLaws.{Change, put-change, put-grid, sum-change}
 use Rattle.judging.proofs.BackLaws.{raise}
 
@@ -75,23 +75,29 @@ both {P = P} {Q = Q} {R = R} {g₀ = g₀} {f₀ = f₀} {k₀ = k₀} {g₁ = g
     second v (inl y) = first v y (a .edges v)
     second v (inr y) = inr (q (at f₂ v) v (at k₂ v) y)
 
--- The same links, named otherwise.
-pub alike :
-    {n : ℕ} {P R : ℕ → ℕ → ℕ → Type 0} {g₀ f₀ k₀ g f k : List (List ℕ)} {w₀ w : List ℕ} {r₀ r : ℕ}
-    → ((u v code : ℕ) → P u v code → R u v code) → ((u v code : ℕ) → R u v code → P u v code)
-    → Done n P g₀ f₀ k₀ w₀ r₀ g f k w r → Done n R g₀ f₀ k₀ w₀ r₀ g f k w r
-alike {P = P} {R = R} p s a =
+-- The followed links are some of R, and all of R rest.
+pub wider :
+    {n : ℕ} {P R : ℕ → ℕ → ℕ → Type 0} {g₀ f₀ k₀ g f k : List (List ℕ)} {w₀ w : List ℕ} {r₀ r : ℕ} → ((u v code : ℕ) → P u v code → R u v code)
+    → Done n P g₀ f₀ k₀ w₀ r₀ g f k w r → (r ≤ 4096 → (u v code : ℕ) → R u v code → Rests g w u v code) → Done n R g₀ f₀ k₀ w₀ r₀ g f k w r
+wider p a rests =
     record {
       live = a .live;
       begun = a .begun;
       marks = a .marks;
-      rests = λ l u v code e. a .rests l u v code (s u v code e);
+      rests = rests;
       keeps = a .keeps;
       grown = a .grown;
       more = a .more;
       going = a .going;
       edges = λ v. ⊎-elim (λ y. inl y) (λ y. inr (p _ _ _ y)) (a .edges v);
     }
+
+-- The same links, named otherwise.
+pub alike :
+    {n : ℕ} {P R : ℕ → ℕ → ℕ → Type 0} {g₀ f₀ k₀ g f k : List (List ℕ)} {w₀ w : List ℕ} {r₀ r : ℕ}
+    → ((u v code : ℕ) → P u v code → R u v code) → ((u v code : ℕ) → R u v code → P u v code)
+    → Done n P g₀ f₀ k₀ w₀ r₀ g f k w r → Done n R g₀ f₀ k₀ w₀ r₀ g f k w r
+alike p s a = wider p a (λ l u v code e. a .rests l u v code (s u v code e))
 
 -- One level more.
 pub next :
@@ -225,12 +231,101 @@ module _ {n : ℕ} {g from link : List (List ℕ)} {waiting : List ℕ} {last : 
 
     -- The same, of numbers that are known by equations.
     pub lifted :
-        {x : ℕ} {g₁ f₁ k₁ : List (List ℕ)} → x ≡ at g u + weight code → g₁ ≡ put g v x → f₁ ≡ put from v u → k₁ ≡ put link v code
-        → Done n (Just u v code) g from link waiting last g₁ f₁ k₁ (set waiting (v / 7) 1) last₁
-    lifted e eg ef ek = rw (eg, ef, ek, e) lift
+        {x t : ℕ} {g₁ f₁ k₁ : List (List ℕ)} → x ≡ at g u + weight code → g₁ ≡ put g v x → f₁ ≡ put from v u → k₁ ≡ put link v code → t ≡ v / 7
+        → Done n (Just u v code) g from link waiting last g₁ f₁ k₁ (set waiting t 1) last₁
+    lifted e eg ef ek et = rw (eg, ef, ek, e, et) lift
 
 -- What was left is known by equations.
 pub arrived :
     {n : ℕ} {P : ℕ → ℕ → ℕ → Type 0} {g₀ f₀ k₀ g f k g₁ f₁ k₁ : List (List ℕ)} {w₀ w w₁ : List ℕ} {r₀ r r₁ : ℕ}
     → g ≡ g₁ → f ≡ f₁ → k ≡ k₁ → w ≡ w₁ → r ≡ r₁ → Done n P g₀ f₀ k₀ w₀ r₀ g₁ f₁ k₁ w₁ r₁ → Done n P g₀ f₀ k₀ w₀ r₀ g f k w r
 arrived eg ef ek ew er d = rw (eg, ef, ek, ew, er) d
+
+-- The best source among the fields from k on, and its generation; 7 and 0 where none of them is a source.
+pub record Among (bytes : List ℕ) (g : List (List ℕ)) (s k p x : ℕ) : Type 0 where
+  pub place : p ≤ 7
+  pub none : p ≡ 7 → x ≡ 0
+  pub empty : p ≡ 7 → (q : ℕ) → k ≤ q → q < 7 → getD bytes (21 + q) 0 ≡ 1 → ⊥
+  pub source : p < 7 → getD bytes (21 + p) 0 ≡ 1
+  pub high : p < 7 → at g (7 * s + p) ≡ x
+  pub most : (q : ℕ) → k ≤ q → q < 7 → getD bytes (21 + q) 0 ≡ 1 → at g (7 * s + q) ≤ x
+
+module _ {bytes : List ℕ} {g : List (List ℕ)} {s : ℕ} where
+  pub among-none : Among bytes g s 7 7 0
+  among-none =
+      record {
+        place = omega arith;
+        none = λ e. refl;
+        empty = λ e q l m o. omega arith;
+        source = λ l. absurd (omega arith);
+        high = λ l. absurd (omega arith);
+        most = λ q l m o. absurd (omega arith);
+      }
+
+  -- Field i is no source, or a lower one.
+  pub among-same :
+      {k i p x : ℕ} → Among bytes g s k p x → k ≤ i + 1 → (getD bytes (21 + i) 0 ≡ 1 → at g (7 * s + i) < x) → Among bytes g s i p x
+  among-same {k} {i} {p} {x} a b low =
+      record {
+        place = a .place;
+        none = a .none;
+        empty = λ e q l m o.
+            by-cases (ℕ-discrete q i)
+            (λ (z : q ≡ i). let y = low (subst (λ (j : ℕ). getD bytes (21 + j) 0 ≡ 1) z o) in omega (arith, a .none e))
+            (λ (z : q ≡ i → ⊥). a .empty e q (omega arith) m o);
+        source = a .source;
+        high = a .high;
+        most = λ q l m o.
+            by-cases (ℕ-discrete q i)
+            (λ (z : q ≡ i). let y = low (subst (λ (j : ℕ). getD bytes (21 + j) 0 ≡ 1) z o) in rw z (omega arith))
+            (λ (z : q ≡ i → ⊥). a .most q (omega arith) m o);
+      }
+
+  -- Field i is a source, and none so far is above it.
+  pub among-new :
+      {k i p x y : ℕ} → Among bytes g s k p x → k ≤ i + 1 → i < 7 → getD bytes (21 + i) 0 ≡ 1 → y ≡ at g (7 * s + i) → x ≤ y → Among bytes g s i i y
+  among-new {k} {i} {p} {x} {y} a b l o e up =
+      record {
+        place = omega arith;
+        none = λ z. absurd (omega arith);
+        empty = λ z. absurd (omega arith);
+        source = λ z. o;
+        high = λ z. sym e;
+        most = λ q m h t.
+            by-cases (ℕ-discrete q i)
+            (λ (z : q ≡ i). rw z (omega arith))
+            (λ (z : q ≡ i → ⊥). omega (arith, a .most q (omega arith) h t));
+      }
+
+  pub among-best : {k p x : ℕ} → Among bytes g s k p x → k ≡ 0 → Best bytes g s p
+  among-best {k} {p} {x} a z =
+      record {
+        place = a .place;
+        none = λ e q l o. a .empty e q (omega arith) l o;
+        source = a .source;
+        most = λ h q l o. omega (arith, a .most q (omega arith) l o, a .high h);
+      }
+
+-- A rule without sources has no fresh links.
+pub fresh-none :
+    {n : ℕ} {bytes : List ℕ} {s y z p : ℕ} {g from link : List (List ℕ)} {waiting : List ℕ} {last : ℕ} → Live n g from link waiting last → Best bytes g s p → p ≡ 7
+    → Done n (Upto 7 (FreshE bytes s y z)) g from link waiting last g from link waiting last
+fresh-none l b e = skip l (λ u v code f. b .none e (f .number) (f .below) (f .here .source))
+
+-- After the fresh link from the best source the others rest.
+pub fresh-best :
+    {n : ℕ} {bytes : List ℕ} {s y z p : ℕ} {g₀ f₀ k₀ g f k : List (List ℕ)} {w₀ w : List ℕ} {r₀ r : ℕ} → Best bytes g₀ s p → p < 7
+    → Done n (Just (7 * s + p) y z) g₀ f₀ k₀ w₀ r₀ g f k w r → Done n (Upto 7 (FreshE bytes s y z)) g₀ f₀ k₀ w₀ r₀ g f k w r
+fresh-best {s = s} {y} {z} {p} {g = g} {w = w} b l a =
+    wider
+    (λ u v code e. record { number = p; below = l; here = record { source = b .source l; just = e } })
+    a
+    (λ h u v code e.
+    rw (e .here .just .from-is, e .here .just .to-is, e .here .just .code-is)
+    (other (e .number) (e .below) (a .rests h (7 * s + p) y z (record { from-is = refl; to-is = refl; code-is = refl }))
+    (a .keeps (7 * s + e .number) (7 * s + p) 0 (inr (omega (arith, b .most l (e .number) (e .below) (e .here .source)))))))
+  where
+    other : (q : ℕ) → q < 7 → Rests g w (7 * s + p) y z → Rests g w (7 * s + q) (7 * s + p) 0 → Rests g w (7 * s + q) y z
+    other q m (inl c) d = inl (subst (λ (i : ℕ). getD w i 0 ≡ 1) (let e : (7 * s + p) / 7 ≡ (7 * s + q) / 7 = omega arith in e) c)
+    other q m (inr c) (inl d) = inl d
+    other q m (inr c) (inr d) = inr (omega arith)

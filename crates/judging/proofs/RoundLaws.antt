@@ -5,15 +5,16 @@ use mathlib.Core.Logic.{_⊎_, inl, inr, by-cases}
 use Prim.Native.Nat.{ℕ, _+_, _*_, _/_, _≤_, _<_}
 use native.Mathlib.Omega.{arith}
 use native.Mathlib.Decide.{ℕ-discrete, decLe}
-use lib.ListN.{length, getD}
 use Rattle.judging.specs.Table.{tableRules, TableFits}
 use Rattle.judging.specs.Nodes.{at, Grid, Zeros, back, weight, Stable, Turn}
 use Rattle.judging.specs.Links.{Link, Closed, Spreads}
 use Rattle.judging.specs.Passes.{Live, Swept, Same, Rests, EachE, Inside, Walked, Last, sumTo}
+use Rattle.judging.specs.Fresh.{FirstWaiting}
 use Rattle.judging.proofs.NodeLaws.{sum-low}
 use Rattle.judging.proofs.BackLaws.{begun}
 use Rattle.judging.proofs.EndLaws.{Kept, climb, fresh-le, below, forever, back-again, turn, line}
 use Rattle.judging.proofs.GraphLaws.{to-link, from-link, sane}
+use Rattle.judging.proofs.FreshLaws.{first-rests}
 
 -- Between two sweeps.
 pub record Round (table : List ℕ) (rules : ℕ) (codes index : List ℕ) (count : ℕ) (g from link : List (List ℕ)) (waiting : List ℕ) : Type 0 where
@@ -26,10 +27,10 @@ height {n = n} {g = g} l = sum-low n n (at g) (λ v. l .low v (λ p. omega arith
 
 module _ {table : List ℕ} {rules : ℕ} (tf : TableFits table rules) {codes index : List ℕ} {count : ℕ}
     (closed : Closed (tableRules table rules) codes index count) where
-  -- Nothing is raised yet, and all shapes wait.
-  pub nothing : {g from link : List (List ℕ)} {waiting : List ℕ} → Zeros g → Grid from → Grid link → length waiting ≡ 512
-      → ((i : ℕ) → i < 512 → getD waiting i 0 ≡ 1) → Round table rules codes index count g from link waiting
-  nothing {g} {from} {link} z gf gk size ones =
+  -- Nothing is raised yet, and the shapes wait that fresh links may lead from.
+  pub nothing : {g from link : List (List ℕ)} {waiting : List ℕ} → Zeros g → Grid from → Grid link → FirstWaiting table rules codes count waiting
+      → Round table rules codes index count g from link waiting
+  nothing {g} {from} {link} z gf gk first =
       let few = closed .few in
       record {
         live =
@@ -37,7 +38,7 @@ module _ {table : List ℕ} {rules : ℕ} (tf : TableFits table rules) {codes in
               grid = z .grid;
               grid-from = gf;
               grid-link = gk;
-              size = size;
+              size = first .size;
               small = omega arith;
               timed = begun (at g) (at from) (at link) (z .zero-at);
               node = λ _. omega arith;
@@ -45,7 +46,7 @@ module _ {table : List ℕ} {rules : ℕ} (tf : TableFits table rules) {codes in
               low = λ v d. omega (arith, z .zero-at v);
               high = λ v e. let y : ⊥ = omega arith in absurd y;
             };
-        rests = λ u v code e. inl (ones (u / 7) (let l = sane tf closed .from u v code (to-link tf closed u v code e) in omega arith));
+        rests = first-rests tf first z index;
         raised = λ v l. let y : ⊥ = omega (arith, z .zero-at v) in absurd y;
       }
 

@@ -520,6 +520,12 @@ module _ {rules : List Rule} {rows : List Record} {store digits : List ℕ} {m s
   pub heading-below : h < heads → h < getD (rowBytes store r) 28 0
   heading-below l = let are = x .heads-are in omega arith
 
+  pub heading-four : heads ≤ 4
+  heading-four =
+      let are = x .heads-are in
+      let four = few-ruled (x .ruled) .heads-few (suc r) (ruleIn (rowBytes store r)) (named-ruled (x .ruled) r (x .r-low)) in
+      let len = heads-length (rowBytes store r) in omega arith
+
   module _ (code : ℕ) (is : MadeOf (ruleIn (rowBytes store r)) h digits code) (high : h < heads) where
     the-head : (g : Head) × (nth (ruleIn (rowBytes store r) .heads) (suc h) ≡ some g)
     the-head = head-there store m rules (x .ruled .fits) (x .ruled .are) r h (heading-below high)

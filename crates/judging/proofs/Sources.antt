@@ -1,6 +1,6 @@
 -- The first place of a mark holds its value, and the places that fresh numbers come from are those of the carried marks. Assumes nothing.
 use mathlib.Core.Path.{_≡_, refl, sym}
-use mathlib.Core.Bool.{Bool, true, false, cond, _&&_}
+use mathlib.Core.Bool.{Bool, true, false, cond, _&&_, false≢true, and-eq-true-iff}
 use mathlib.Core.Logic.{_⊎_, inl, inr}
 use mathlib.Core.List.{List, [], _∷_}
 use mathlib.Core.Option.{some, Option·none-ne-some}
@@ -73,19 +73,15 @@ flag-one : (b : Bool) → flag b ≡ 1 → b ≡ true
 flag-one true e = refl
 flag-one false e = absurd (omega arith)
 
-both-true : (a b : Bool) → (a && b) ≡ true → (a ≡ true) × (b ≡ true)
-both-true true b e = (refl, e)
-both-true false b e = absurd (let z : _≡_ {A = ℕ} 0 1 = cc in omega arith)
-
 none-empty : (ms : List ℕ) → isNone ms ≡ true → ms ≡ []
 none-empty [] e = refl
-none-empty (m ∷ ms) e = absurd (let z : _≡_ {A = ℕ} 0 1 = cc in omega arith)
+none-empty (m ∷ ms) e = absurd (false≢true cc)
 
 pub source-is : (r : Rule) (place : ℕ) → sourceAt r place ≡ 1 → Source r place
 source-is r zero e = nothing refl (none-empty (carriedMarks r) (flag-one (isNone (carriedMarks r)) e))
 source-is r (suc i) e =
     let m : ℕ = getD (r .marks) i 0 in
-    let s = both-true (eqb (firstPlace m (r .marks)) (suc i)) (has m (marksOf (r .heads)))
+    let s = and-eq-true-iff (eqb (firstPlace m (r .marks)) (suc i)) (has m (marksOf (r .heads))) .0
     (flag-one (eqb (firstPlace m (r .marks)) (suc i) && has m (marksOf (r .heads))) e) in
     let q : firstPlace m (r .marks) ≡ suc i = eqb-true (firstPlace m (r .marks)) (suc i) (s .0) in
     first m (in-carried r m (first-in m (r .marks) (omega arith)) (has-in m (marksOf (r .heads)) (s .1))) (sym q)

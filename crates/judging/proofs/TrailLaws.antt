@@ -13,16 +13,18 @@ use lib.Dec.{eqb, ltb}
 use lib.ListN.{length, getD, set, take, drop, length-append}
 use lib.Seq.{paste-zero, sets-eq, take-all, take-append-le, take-take, drop-at, take-at, drop-drop, length-take-le, length-paste}
 use Rattle.patterns.specs.Outcome.{Outcome, good, refused, counted}
-use Rattle.sheet.specs.Line.{B, Line, textOf}
-use Rattle.sheet.specs.Sheet.{letterBefore}
-use Rattle.sheet.specs.Read.{Taken, takes, refuses, inFront, goOn, checked, textLimit}
-use Rattle.sheet.specs.Write.{lineHeld, lineHolds, takenLent, partsOf, sheetHeld, fits, written, writeOf, writeSays}
+use Rattle.sheet.specs.Line.{Line, textOf}
+use Rattle.sheet.specs.Read.{textLimit}
+use Rattle.sheet.specs.Write.{sheetHeld, fits, written, writeOf, writeSays}
 use Rattle.sheet.specs.Answer.{refusalSays}
 use Rattle.sheet.specs.declared.Refusal.{Refusal}
 use Rattle.sheet.specs.declared.Refusal.the-variants.{TextTooLong, FormWrong, OutOfPlace, KindWrong, MarkWrong, OneTooMany, LinesShort, LineWrong, TextShort}
 use Rattle.sheet.specs.declared.WriteAnswer.{WriteAnswer}
 use Rattle.sheet.specs.declared.WriteAnswer.the-variants.{Bytes, Refused}
+use Rattle.sheet.proofs.Sheets.{refused≢good}
+use Rattle.sheet.proofs.Refused.{sheetHeld-refused, sheetHeld-number}
 use Rattle.chase.specs.Steps.{Step, stepNumbers}
+use Rattle.chase.proofs.StepLaws.{length-numbers, numbers-append}
 use Rattle.judging.specs.Table.{FirstWrong}
 use Rattle.judging.specs.Found.{onesIn}
 use Rattle.judging.specs.Nodes.{at, back, weight}
@@ -63,14 +65,6 @@ module _ (d : List ℕ) (i : ℕ) (xs ys : List ℕ) (h : i + length xs + length
       ∙ ap (λ f. f ++ drop (i + length (xs ++ ys)) d) (append-assoc (take i d) xs ys)
 
 -- Steps as numbers.
-
-length-numbers : (ss : List Step) → length (stepNumbers ss) ≡ 5 * length ss
-length-numbers [] = refl
-length-numbers (s ∷ ss) = omega (arith, length-numbers ss)
-
-numbers-append : (ss ts : List Step) → stepNumbers (ss ++ ts) ≡ stepNumbers ss ++ stepNumbers ts
-numbers-append [] ts = refl
-numbers-append (s ∷ ss) ts = ap (λ r. s .rule ∷ s .head ∷ s .from ∷ s .to ∷ s .fresh ∷ r) (numbers-append ss ts)
 
 put-over : (d : List ℕ) (a : ℕ) (ss : List Step) → putSteps d a ss ≡ over (5 * a) (stepNumbers ss) d
 put-over d a ss =
@@ -434,46 +428,15 @@ ones-same n marks h e = rw (add-one n, ones-suc n marks h, ne-eqb (getD marks n 
 abbrev Eight : ℕ → ℕ → Type 0
 Eight n k = (n ≡ 8) × (0 < k)
 
-good≢refused : {A : Type 0} {a : A} {n k : ℕ} → good a ≡ refused n k → ⊥
-good≢refused e = let z : _≡_ {A = ℕ} 0 1 = cc in omega arith
-
 refused-number : {A : Type 0} {m n j k : ℕ} → _≡_ {A = Outcome A} (refused m j) (refused n k) → m ≡ n
 refused-number e = cc
 
 refused-line : {A : Type 0} {m n j k : ℕ} → _≡_ {A = Outcome A} (refused m j) (refused n k) → j ≡ k
 refused-line e = cc
 
-inFront-refused : (l : Line) (o : Outcome (List Line)) (n k : ℕ) → inFront l o ≡ refused n k → o ≡ refused n k
-inFront-refused l (good ls) n k e = absurd (good≢refused e)
-inFront-refused l (refused m j) n k e = cc
-
-end-refused : (t : Bool) (j n k : ℕ) → _≡_ {A = Outcome (List Line)} (cond t (refused 8 (suc j)) (good [])) (refused n k) → Eight n k
-end-refused true j n k e = let p = refused-number e in let q = refused-line e in (omega arith, omega arith)
-end-refused false j n k e = absurd (good≢refused e)
-
-lent-refuses : (before : List Line) (x : List ℕ) (r : ℕ) → takenLent before x ≡ refuses r → r ≡ 8
-unfolding takenLent
-lent-refuses before x r e = go (lineHolds before x) e
-  where
-    go : (t : Bool) → cond t (takes (lineHeld before x)) (refuses 8) ≡ refuses r → r ≡ 8
-    go true e = let z : _≡_ {A = ℕ} 0 1 = cc in absurd (omega arith)
-    go false e = cc
-
-more-refused : (before : List Line) (x : List ℕ) (rest : Line → Outcome (List Line)) (n k : ℕ) → ((l : Line) → rest l ≡ refused n k → Eight n k)
-    → (t : Taken) → takenLent before x ≡ t → goOn t rest (suc (length before)) ≡ refused n k → Eight n k
-more-refused before x rest n k more (takes l) p e = more l (inFront-refused l (rest l) n k e)
-more-refused before x rest n k more (refuses r) p e =
-    let eight = lent-refuses before x r p in let a = refused-number e in let b = refused-line e in (omega arith, omega arith)
-
-checked-refused : (before : List Line) (xs : List (List ℕ)) (n k : ℕ) → checked takenLent 8 before xs ≡ refused n k → Eight n k
-checked-refused before [] n k e = end-refused (eqb (letterBefore before) B) (length before) n k e
-checked-refused before (x ∷ xs) n k e =
-    more-refused before x (λ l. checked takenLent 8 (l ∷ before) xs) n k (λ l. checked-refused (l ∷ before) xs n k) (takenLent before x) refl e
-
 -- Lent lines are refused with 8 and a line from 1.
 pub held-refused : (numbers : List ℕ) (n k : ℕ) → sheetHeld numbers ≡ refused n k → Eight n k
-unfolding sheetHeld
-held-refused numbers n k e = checked-refused [] (partsOf (length numbers) numbers) n k e
+held-refused numbers n k e = (sheetHeld-number numbers n k e, omega (arith, sheetHeld-refused numbers n k .0 e .after))
 
 fits-not-eight : (room : ℕ) (text : List ℕ) (line : ℕ) → counted (fits room text) ≡ refused 8 line → ⊥
 fits-not-eight room text line e = go (ltb textLimit (length text)) (ltb room (length text)) e
@@ -481,7 +444,7 @@ fits-not-eight room text line e = go (ltb textLimit (length text)) (ltb room (le
     go : (t u : Bool) → counted (cond t (refused 1 0) (cond u (refused 9 0) (good text))) ≡ refused 8 line → ⊥
     go true u e = let p = refused-number e in omega arith
     go false true e = let p = refused-number e in omega arith
-    go false false e = good≢refused e
+    go false false e = refused≢good (sym e)
 
 module _ (numbers : List ℕ) (room : ℕ) (says : Outcome ℕ) (e : says ≡ counted (writeOf numbers room)) where
   -- Write answers 8: the line is the first wrong one.
@@ -510,7 +473,7 @@ module _ (numbers : List ℕ) (room : ℕ) (says : Outcome ℕ) (e : says ≡ co
 
 module _ (numbers : List ℕ) (room : ℕ) (answer : WriteAnswer) (e : writeSays answer ≡ counted (writeOf numbers room)) where
   pub bytes-right : (n : ℕ) → answer ≡ Bytes n → FirstWrong numbers 0
-  bytes-right n p = right-lines numbers room (writeSays answer) e (λ line q. good≢refused (sym (ap writeSays p) ∙ q))
+  bytes-right n p = right-lines numbers room (writeSays answer) e (λ line q. refused≢good (sym q ∙ ap writeSays p))
 
   pub refusal-wrong : (r : Refusal) (line : ℕ) → answer ≡ Refused r → r ≡ LineWrong line → FirstWrong numbers line
   refusal-wrong r line p q = wrong-line numbers room (writeSays answer) e line (ap writeSays p ∙ ap refusalSays q)

@@ -1,7 +1,7 @@
 -- The verdicts are right: what the code finds, and the steps that it writes, meet the contract of Judge. Assumes nothing.
 use mathlib.Core.Path.{_≡_, refl, sym, _∙_, ap, subst₂}
 use mathlib.Core.Logic.{_⊎_, inl, inr}
-use mathlib.Core.List.{List, [], _∷_, _++_, append-nil}
+use mathlib.Core.List.{List, [], _++_, append-nil}
 use Prim.Native.Nat.{ℕ, suc, _+_, _*_, _/_, _≤_, _<_}
 use native.Mathlib.Omega.{arith}
 use lib.ListN.{length, getD, take, drop, length-append}
@@ -18,6 +18,7 @@ use Rattle.chase.specs.Steps.{Step, stepNumbers}
 use Rattle.chase.specs.Certificate.{Listed}
 use Rattle.chase.specs.Judge.{Verdict, judged, refuses, SettlesAtOnce, Settles, Endless, Right, many, JudgeMeets}
 use Rattle.chase.proofs.BoundLaws.{rows-of-tables}
+use Rattle.chase.proofs.StepLaws.{length-numbers, numbers-append}
 use Rattle.chase.proofs.CertificateLaws.{settled-certificate, settled-at-once, endless-certificate}
 use Rattle.judging.specs.Table.{linesIn, SheetHeld}
 use Rattle.judging.specs.Found.{onesIn}
@@ -32,38 +33,29 @@ use Rattle.judging.proofs.FactLaws.{shapes-reached, rules-fired, list-c
 pub held-lines : (numbers : List ℕ) → SheetHeld numbers → sheetHeld numbers ≡ good (linesIn numbers)
 held-lines numbers s = rw (s .holds)
 
--- Steps as numbers.
-pub step-numbers-length : (ss : List Step) → length (stepNumbers ss) ≡ 5 * length ss
-step-numbers-length [] = refl
-step-numbers-length (s ∷ ss) = omega (arith, step-numbers-length ss)
-
-pub step-numbers-append : (ss ts : List Step) → stepNumbers (ss ++ ts) ≡ stepNumbers ss ++ stepNumbers ts
-step-numbers-append [] ts = refl
-step-numbers-append (s ∷ ss) ts = rw (step-numbers-append ss ts)
-
 -- Steps that are put at the front stand there.
 pub put-held : (before : List ℕ) (ss : List Step) → putSteps before 0 ss ≡ stepNumbers ss ++ drop (5 * length ss) before
 put-held before ss =
     let n : ℕ = 5 * length ss in
     let z : 5 * 0 + n ≡ n = omega arith in
-    ap (λ (l : List ℕ). l ++ drop (5 * 0 + n) before) (take-all n (stepNumbers ss) (omega (arith, step-numbers-length ss)))
+    ap (λ (l : List ℕ). l ++ drop (5 * 0 + n) before) (take-all n (stepNumbers ss) (omega (arith, length-numbers ss)))
     ∙ ap (λ (k : ℕ). stepNumbers ss ++ drop k before) z
 
 -- Steps that are put after others at the front.
 pub put-twice : (before : List ℕ) (ss ts : List Step) (n : ℕ) → n ≡ length ss → putSteps (putSteps before 0 ss) n ts ≡ putSteps before 0 (ss ++ ts)
 put-twice before ss ts n e =
-    let a : length (stepNumbers ss) ≡ 5 * n = omega (arith, step-numbers-length ss) in
+    let a : length (stepNumbers ss) ≡ 5 * n = omega (arith, length-numbers ss) in
     let b : 5 * n + 5 * length ts ≡ length (stepNumbers ss) + 5 * length ts = omega arith in
     let c : 5 * length ss + 5 * length ts ≡ 5 * length (ss ++ ts) = omega (arith, length-append ss ts) in
     let D : List ℕ = drop (5 * length ss) before in
     ap (λ (l : List ℕ). putSteps l n ts) (put-held before ss)
     ∙ ap (λ (l : List ℕ). l ++ take (5 * length ts) (stepNumbers ts) ++ drop (5 * n + 5 * length ts) (stepNumbers ss ++ D)) (take-at (stepNumbers ss) D (5 * n) a)
     ∙ ap (λ (l : List ℕ). stepNumbers ss ++ l ++ drop (5 * n + 5 * length ts) (stepNumbers ss ++ D))
-    (take-all (5 * length ts) (stepNumbers ts) (omega (arith, step-numbers-length ts)))
+    (take-all (5 * length ts) (stepNumbers ts) (omega (arith, length-numbers ts)))
     ∙ ap (λ (k : ℕ). stepNumbers ss ++ stepNumbers ts ++ drop k (stepNumbers ss ++ D)) b
     ∙ ap (λ (l : List ℕ). stepNumbers ss ++ stepNumbers ts ++ l) (drop-append-add (stepNumbers ss) D (5 * length ts) ∙ drop-drop (5 * length ts) (5 * length ss) before)
     ∙ ap (λ (k : ℕ). stepNumbers ss ++ stepNumbers ts ++ drop k before) c
-    ∙ ap (λ (l : List ℕ). l ++ drop (5 * length (ss ++ ts)) before) (sym (step-numbers-append ss ts))
+    ∙ ap (λ (l : List ℕ). l ++ drop (5 * length (ss ++ ts)) before) (sym (numbers-append ss ts))
     ∙ sym (put-held before (ss ++ ts))
 
 -- More than 512 shapes.

@@ -9,6 +9,8 @@ pub mod Found
 pub mod Nodes
 pub mod Links
 pub mod Passes
+pub mod Fresh
+pub mod Noted
 pub mod Written
 pub mod Trails
 pub mod Facts

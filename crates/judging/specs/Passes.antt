@@ -86,6 +86,13 @@ pub record FreshE (bytes : List ℕ) (s y z p u v code : ℕ) : Type 0 where
   pub source : getD bytes (21 + p) 0 ≡ 1
   pub just : Just (7 * s + p) y z u v code
 
+-- The source p of a rule's fresh links with the largest generation in shape s; 7 where the rule has no source.
+pub record Best (bytes : List ℕ) (g : List (List ℕ)) (s p : ℕ) : Type 0 where
+  pub place : p ≤ 7
+  pub none : p ≡ 7 → (q : ℕ) → q < 7 → getD bytes (21 + q) 0 ≡ 1 → ⊥
+  pub source : p < 7 → getD bytes (21 + p) 0 ≡ 1
+  pub most : p < 7 → (q : ℕ) → q < 7 → getD bytes (21 + q) 0 ≡ 1 → at g (7 * s + q) ≤ at g (7 * s + p)
+
 -- The first place of the mark in field j of H line h; 0 for a fresh mark.
 abbrev pub placeOf : List ℕ → ℕ → ℕ → ℕ
 placeOf bytes h j = getD bytes (8 + getD bytes (34 + 8 * h + j) 0) 0
@@ -99,8 +106,8 @@ pub record LineBytes (bytes : List ℕ) (h : ℕ) : Type 0 where
 
 -- The links of rule r and H line h from shape s to field j, from 0, of shape t.
 pub data FieldE (bytes : List ℕ) (r h s t j u v code : ℕ) : Type 0 where
-  carriedE : (placeOf bytes h j ≡ 0 → ⊥) → Just (7 * s + placeOf bytes h j) (7 * t + j + 1) (8 * r + 2 * h) u v code → FieldE bytes r h s t j u v code
-  freshE : placeOf bytes h j ≡ 0 → Upto 7 (FreshE bytes s (7 * t + j + 1) (8 * r + 2 * h + 1)) u v code → FieldE bytes r h s t j u v code
+  carriedE : (placeOf bytes h j ≡ 0 → ⊥) → Just (7 * s + placeOf bytes h j) (7 * t + (j + 1)) (8 * r + 2 * h) u v code → FieldE bytes r h s t j u v code
+  freshE : placeOf bytes h j ≡ 0 → Upto 7 (FreshE bytes s (7 * t + (j + 1)) (8 * r + 2 * h + 1)) u v code → FieldE bytes r h s t j u v code
 
 abbrev pub HeadE : List ℕ → ℕ → ℕ → ℕ → ℕ → ℕ → ℕ → ℕ → Type 0
 HeadE bytes r h s t = Upto (getD bytes (33 + 8 * h) 0) (FieldE bytes r h s t)

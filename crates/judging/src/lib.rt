@@ -1,4 +1,5 @@
 // Judging a sheet: whether its follow-ups come to rest.
+mod fresh;
 mod kinds;
 mod search;
 mod shape;
@@ -15,6 +16,7 @@ ghost use Rattle.judging.specs.Answer.{judgeSays, judgeRefusalNumber, ju
 ghost use Rattle.judging.specs.Table.{SheetHeld, FirstWrong, rulesIn, tableRules, TableFits};
 ghost use Rattle.judging.specs.Firing.{ByKind};
 ghost use Rattle.judging.specs.Found.{onesIn};
+ghost use Rattle.judging.specs.Noted.{Noted};
 ghost use Rattle.judging.specs.Nodes.{Grid, Zeros};
 ghost use Rattle.judging.specs.Written.{InTurn, InLine};
 ghost use Rattle.judging.specs.Trails.{Lent, WroteEndless, WroteSettled};
@@ -259,9 +261,13 @@ fn judge_found(
     makers: &[u16; 512],
     headers: &[u16; 512],
     marks: &[u8; 256],
+    firings: &[u16; 2048],
+    targets: &[u16; 2048],
+    starts: &[u32; 513],
     count: usize,
 ) -> JudgeAnswer
-    requires { ⌜ SomeKnown (now table) rules (now shapes) (now index) (now parents) (now makers) (now headers) (now marks) count × (20480 ≤ length (now steps)) × ByKind (now table) rules (now kinds) ⌝ }
+    requires { ⌜ SomeKnown (now table) rules (now shapes) (now index) (now parents) (now makers) (now headers) (now marks) count × (20480 ≤ length (now steps)) × ByKind (now table) rules (now kinds)
+        × Noted (now table) rules (now shapes) (now index) (now firings) (now targets) (now starts) count ⌝ }
     ensures { λ r. ⌜ RightForKnown (now (table .entry)) rules (now (shapes .entry)) (now (index .entry)) (now (parents .entry)) (now (makers .entry)) (now (headers .entry))
         (now (marks .entry)) count (now (steps .entry)) r (now (steps .exit)) ⌝ }
 {
@@ -276,6 +282,9 @@ fn judge_found(
         kinds,
         shapes,
         index,
+        firings,
+        targets,
+        starts,
         count,
         &mut generations,
         &mut from,
@@ -320,6 +329,9 @@ fn judge_rules(lines: &[u32], steps: &mut [u16], table: &[u8; 16384], rules: usi
     let mut parents = [0u16; 512];
     let mut makers = [0u16; 512];
     let mut headers = [0u16; 512];
+    let mut firings = [0u16; 2048];
+    let mut targets = [0u16; 2048];
+    let mut starts = [0u32; 513];
     let found = search::search(
         lines,
         table,
@@ -330,6 +342,9 @@ fn judge_rules(lines: &[u32], steps: &mut [u16], table: &[u8; 16384], rules: usi
         &mut parents,
         &mut makers,
         &mut headers,
+        &mut firings,
+        &mut targets,
+        &mut starts,
     );
     if found.full {
         return JudgeAnswer::Refused(JudgeRefusal::ShapesOver);
@@ -346,6 +361,9 @@ fn judge_rules(lines: &[u32], steps: &mut [u16], table: &[u8; 16384], rules: usi
         &makers,
         &headers,
         &marks,
+        &firings,
+        &targets,
+        &starts,
         found.count,
     )
 }

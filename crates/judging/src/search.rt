@@ -1,13 +1,15 @@
 // The search for the shapes that the rules reach from the rows.
+ghost use mathlib.Core.Bool.{false};
 ghost use mathlib.Core.Path.{_≡_};
 ghost use native.Mathlib.Decide.{ℕ-discrete};
-ghost use Prim.Native.Nat.{_+_, _*_, _≤_, _<_};
+ghost use Prim.Native.Nat.{_+_, _-_, _*_, _≤_, _<_};
 ghost use lib.ListN.{length, getD, set};
 ghost use Rattle.patterns.specs.Pattern.{pattern};
 ghost use Rattle.judging.specs.Table.{SheetHeld, rulesIn, rowsIn, tableRules, KindFits, TableFits};
 ghost use Rattle.judging.specs.Codes.{CodeIs};
 ghost use Rattle.judging.specs.Firing.{ByKind};
 ghost use Rattle.judging.specs.Found.{Searched};
+ghost use Rattle.judging.specs.Noted.{WrittenAt, Noted};
 ghost use Rattle.judging.specs.Rows.{Clear, rowNumbers, RowAt, RowsFound, RowsTried};
 use crate::shape::made;
 use crate::shape::next_fire;
@@ -146,7 +148,24 @@ fn find_rows(
     count
 }
 
-// Finds the shapes that the rules reach from the rows, up to 512, in the order of discovery, and which rules fire.
+// Notes firing number k, where there is room: its rule and H line as 8 × rule + 2 × H line, and the place of the shape that it makes.
+pub(crate) fn note(
+    firings: &mut [u16; 2048],
+    targets: &mut [u16; 2048],
+    k: usize,
+    link: usize,
+    place: u16,
+)
+    requires { ⌜ (length (now firings) ≡ 2048) × (length (now targets) ≡ 2048) × (link < 65536) × (1 ≤ place) ⌝ }
+    ensures { λ _. ⌜ WrittenAt (now (firings .entry)) (now (firings .exit)) k link × WrittenAt (now (targets .entry)) (now (targets .exit)) k (place - 1) ⌝ }
+{
+    if k < 2048 {
+        firings[k] = link as u16;
+        targets[k] = place - 1;
+    }
+}
+
+// Finds the shapes that the rules reach from the rows, up to 512, in the order of discovery, and which rules fire. Notes the firings.
 pub(crate) fn search(
     lines: &[u32],
     table: &[u8; 16384],
@@ -161,9 +180,17 @@ pub(crate) fn search(
     makers: &mut [u16; 512],
     // The number of the H line that made it; 0 where a row has it.
     headers: &mut [u16; 512],
+    // The rule and the H line of each noted firing, as 8 × rule + 2 × H line.
+    firings: &mut [u16; 2048],
+    // The place of the shape that each makes.
+    targets: &mut [u16; 2048],
+    // Where the notes of each shape begin; those of the last end where the next would begin.
+    starts: &mut [u32; 513],
 ) -> Found
-    requires { ⌜ SheetHeld (now lines) × TableFits (now table) rules × (tableRules (now table) rules ≡ rulesIn (now lines)) × (length (now shapes) ≡ 512) × Clear (now index) 17792 × (length (now parents) ≡ 512) × (length (now makers) ≡ 512) × (length (now headers) ≡ 512) × ByKind (now table) rules (now kinds) ⌝ }
-    ensures { λ r. ⌜ Searched (rulesIn (now (lines .entry))) (rowsIn (now (lines .entry))) (now (shapes .exit)) (now (index .exit)) (now (parents .exit)) (now (makers .exit)) (now (headers .exit)) (r .fired) (r .count) (r .full) ⌝ }
+    requires { ⌜ SheetHeld (now lines) × TableFits (now table) rules × (tableRules (now table) rules ≡ rulesIn (now lines)) × (length (now shapes) ≡ 512) × Clear (now index) 17792 × (length (now parents) ≡ 512) × (length (now makers) ≡ 512) × (length (now headers) ≡ 512) × ByKind (now table) rules (now kinds)
+        × (length (now firings) ≡ 2048) × (length (now targets) ≡ 2048) × (length (now starts) ≡ 513) ⌝ }
+    ensures { λ r. ⌜ Searched (rulesIn (now (lines .entry))) (rowsIn (now (lines .entry))) (now (shapes .exit)) (now (index .exit)) (now (parents .exit)) (now (makers .exit)) (now (headers .exit)) (r .fired) (r .count) (r .full)
+        × (r .full ≡ false → Noted (now (table .entry)) rules (now (shapes .exit)) (now (index .exit)) (now (firings .exit)) (now (targets .exit)) (now (starts .exit)) (r .count)) ⌝ }
 {
     let mut fired = [0u8; 256];
     let mut count = find_rows(lines, shapes, index, parents, makers, headers);
@@ -172,11 +199,14 @@ pub(crate) fn search(
         full = true;
         return Found { fired, count, full };
     }
+    let patterns = sheet::pattern_table();
+    let mut k: usize = 0;
+    starts[0] = 0;
     let mut s: usize = 0;
     'search: while s < count {
         let shape = shapes[s] as usize;
         let kind = shape / 278 + 1;
-        let digits = sheet::digits(shape % 278 + 1);
+        let digits = sheet::digits_in(&patterns, shape % 278 + 1);
         let mut r = next_fire(table, rules, kinds, kind, kind, digits);
         while r < rules {
             fired[r] = 1;
@@ -203,10 +233,13 @@ pub(crate) fn search(
                     );
                     count += 1;
                 }
+                note(firings, targets, k, 8 * r + 2 * h, index[code]);
+                k += 1;
                 h += 1;
             }
             r = next_fire(table, rules, kinds, 65 + r, kind, digits);
         }
+        starts[s + 1] = k as u32;
         s += 1;
     }
     Found { fired, count, full }

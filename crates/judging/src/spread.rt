@@ -5,13 +5,16 @@
 // or from field 0 where the rule carries nothing. Its code is 8 × rule + 2 × H line + fresh, both counted from 0.
 ghost use mathlib.Core.Path.{_≡_};
 ghost use Prim.Native.Nat.{ℕ, _+_, _*_, _≤_, _<_};
-ghost use lib.ListN.{length};
+ghost use lib.ListN.{length, getD};
 ghost use Rattle.judging.specs.Table.{tableRules, rowBytes, TableFits};
 ghost use Rattle.judging.specs.Codes.{shapeAt, ShapeFits};
 ghost use Rattle.judging.specs.Firing.{ByKind};
-ghost use Rattle.judging.specs.Nodes.{at, put as putAt, Grid, Zeros};
+ghost use Rattle.judging.specs.Nodes.{at, put, Grid, Zeros};
 ghost use Rattle.judging.specs.Links.{Closed, Spreads};
-ghost use Rattle.judging.specs.Passes.{Live, Done, Swept, Rests, Just, Upto, FreshE, LineBytes, HeadE, ShapeE, EachE, Onward, Inside, Walked, Last};
+ghost use Rattle.judging.specs.Noted.{Noted, ShapeNotes, NoteFits, NotesE};
+ghost use Rattle.judging.specs.Passes.{Live, Done, Swept, Rests, Just, Upto, FreshE, Best, LineBytes, HeadE, ShapeE, EachE, Onward, Inside, Walked, Last};
+use crate::fresh::first_waiting;
+use crate::search::note;
 use crate::shape::made;
 use crate::shape::next_fire;
 use crate::shape::rule_byte;
@@ -25,21 +28,30 @@ pub(crate) fn number(g: &[[u16; 7]; 512], v: usize) -> u16
     g[s][i]
 }
 
-fn put(g: &mut [[u16; 7]; 512], v: usize, x: u16)
-    requires { ⌜ Grid (now g) × (v < 3584) ⌝ }
-    ensures { λ _. ⌜ now (g .exit) ≡ putAt (now (g .entry)) v x ⌝ }
+// Field p of shape s.
+fn field(g: &[[u16; 7]; 512], s: usize, p: usize) -> u16
+    requires { ⌜ Grid (now g) × (s < 512) × (p < 7) ⌝ }
+    ensures { λ r. ⌜ r ≡ at (now (g .entry)) (7 * s + p) ⌝ }
 {
-    let s = v / 7;
-    let i = v % 7;
-    g[s][i] = x;
+    g[s][p]
 }
 
-// Follows one link, from node u to node v, where there are n nodes. `last` is 0 where nothing was raised, v + 1 where v was raised last,
-// v + 4097 where v was raised above n: then nothing more is done. `waiting` holds 1 for each shape whose links are to be followed.
+fn put_field(g: &mut [[u16; 7]; 512], s: usize, p: usize, x: u16)
+    requires { ⌜ Grid (now g) × (s < 512) × (p < 7) ⌝ }
+    ensures { λ _. ⌜ now (g .exit) ≡ put (now (g .entry)) (7 * s + p) x ⌝ }
+{
+    g[s][p] = x;
+}
+
+// Follows one link, from field p of shape s to field j of shape t, where there are n nodes. `last` is 0 where nothing was raised, v + 1
+// where node v was raised last, v + 4097 where v was raised above n: then nothing more is done. `waiting` holds 1 for each shape whose
+// links are to be followed.
 fn follow(
     n: usize,
-    u: usize,
-    v: usize,
+    s: usize,
+    p: usize,
+    t: usize,
+    j: usize,
     link: u16,
     generations: &mut [[u16; 7]; 512],
     from: &mut [[u16; 7]; 512],
@@ -47,33 +59,57 @@ fn follow(
     waiting: &mut [u8; 512],
     last: usize,
 ) -> usize
-    requires { ⌜ Live n (now generations) (now from) (now links) (now waiting) last × (u < n) × (v < n) ⌝ }
-    ensures { λ r. ⌜ Done n (Just u v link) (now (generations .entry)) (now (from .entry)) (now (links .entry)) (now (waiting .entry)) last (now (generations .exit)) (now (from .exit)) (now (links .exit)) (now (waiting .exit)) r ⌝ }
+    requires { ⌜ Live n (now generations) (now from) (now links) (now waiting) last × (p < 7) × (j < 7) × (7 * s + 7 ≤ n) × (7 * t + 7 ≤ n) ⌝ }
+    ensures { λ r. ⌜ Done n (Just (7 * s + p) (7 * t + j) link) (now (generations .entry)) (now (from .entry)) (now (links .entry)) (now (waiting .entry)) last (now (generations .exit)) (now (from .exit)) (now (links .exit)) (now (waiting .exit)) r ⌝ }
 {
     if 4096 < last {
         return last;
     }
-    let x = number(generations, u) + link % 2;
-    if number(generations, v) >= x {
+    let x = field(generations, s, p) + link % 2;
+    if field(generations, t, j) >= x {
         return last;
     }
-    put(generations, v, x);
-    put(from, v, u as u16);
-    put(links, v, link);
-    waiting[v / 7] = 1;
+    put_field(generations, t, j, x);
+    put_field(from, t, j, (7 * s + p) as u16);
+    put_field(links, t, j, link);
+    waiting[t] = 1;
+    let v = 7 * t + j;
     if n < x as usize {
         return v + 4097;
     }
     v + 1
 }
 
-// Follows the fresh links of rule `r` from shape `s` to node v.
+// The source of rule `r` with the largest generation in shape `s`, the first such; 7 where the rule has none.
+fn best_source(table: &[u8; 16384], r: usize, s: usize, generations: &[[u16; 7]; 512]) -> usize
+    requires { ⌜ (length (now table) ≡ 16384) × (r < 256) × (s < 512) × Grid (now generations) ⌝ }
+    ensures { λ p. ⌜ Best (rowBytes (now (table .entry)) r) (now (generations .entry)) s p ⌝ }
+{
+    let mut best: usize = 7;
+    let mut most: u16 = 0;
+    let mut p: usize = 7;
+    while 0 < p {
+        p -= 1;
+        if rule_byte(table, r, 21 + p) == 1 {
+            let x = field(generations, s, p);
+            if most <= x {
+                best = p;
+                most = x;
+            }
+        }
+    }
+    best
+}
+
+// Follows the fresh links of rule `r` from shape `s` to field j of shape t: the one from the source with the largest generation. After it
+// the others raise nothing.
 fn follow_fresh(
     table: &[u8; 16384],
     n: usize,
     s: usize,
     r: usize,
-    v: usize,
+    t: usize,
+    j: usize,
     link: u16,
     generations: &mut [[u16; 7]; 512],
     from: &mut [[u16; 7]; 512],
@@ -81,28 +117,26 @@ fn follow_fresh(
     waiting: &mut [u8; 512],
     before: usize,
 ) -> usize
-    requires { ⌜ (length (now table) ≡ 16384) × (r < 256) × Live n (now generations) (now from) (now links) (now waiting) before × (7 * s + 7 ≤ n) × (v < n) ⌝ }
-    ensures { λ q. ⌜ Done n (Upto 7 (FreshE (rowBytes (now (table .entry)) r) s v link)) (now (generations .entry)) (now (from .entry)) (now (links .entry)) (now (waiting .entry)) before (now (generations .exit)) (now (from .exit)) (now (links .exit)) (now (waiting .exit)) q ⌝ }
+    requires { ⌜ (length (now table) ≡ 16384) × (r < 256) × Live n (now generations) (now from) (now links) (now waiting) before × (j < 7) × (7 * s + 7 ≤ n) × (7 * t + 7 ≤ n) ⌝ }
+    ensures { λ q. ⌜ Done n (Upto 7 (FreshE (rowBytes (now (table .entry)) r) s (7 * t + j) link)) (now (generations .entry)) (now (from .entry)) (now (links .entry)) (now (waiting .entry)) before (now (generations .exit)) (now (from .exit)) (now (links .exit)) (now (waiting .exit)) q ⌝ }
 {
-    let mut last = before;
-    let mut p: usize = 0;
-    while p < 7 {
-        if rule_byte(table, r, 21 + p) == 1 {
-            last = follow(
-                n,
-                7 * s + p,
-                v,
-                link,
-                generations,
-                from,
-                links,
-                waiting,
-                last,
-            );
-        }
-        p += 1;
+    let p = best_source(table, r, s, generations);
+    if p == 7 {
+        return before;
     }
-    last
+    follow(
+        n,
+        s,
+        p,
+        t,
+        j,
+        link,
+        generations,
+        from,
+        links,
+        waiting,
+        before,
+    )
 }
 
 // Follows the links of H line `h` of rule `r` from shape `s` to the shape `t` that it makes.
@@ -129,14 +163,14 @@ fn follow_head(
     while j < width {
         let mark = rule_byte(table, r, 34 + 8 * h + j);
         let place = rule_byte(table, r, 8 + mark);
-        let v = 7 * t + j + 1;
         if place == 0 {
             last = follow_fresh(
                 table,
                 n,
                 s,
                 r,
-                v,
+                t,
+                j + 1,
                 link + 1,
                 generations,
                 from,
@@ -147,8 +181,10 @@ fn follow_head(
         } else {
             last = follow(
                 n,
-                7 * s + place,
-                v,
+                s,
+                place,
+                t,
+                j + 1,
                 link,
                 generations,
                 from,
@@ -162,13 +198,89 @@ fn follow_head(
     last
 }
 
-// Follows all links from shape `s`.
+// Notes the firings on a shape, the first at place 0. Answers how many there are.
+fn note_shape(
+    table: &[u8; 16384],
+    rules: usize,
+    kinds: &[u16; 321],
+    shape: usize,
+    index: &[u16; 17792],
+    firings: &mut [u16; 2048],
+    targets: &mut [u16; 2048],
+) -> usize
+    requires { ⌜ TableFits (now table) rules × (length (now index) ≡ 17792) × (shape < 17792) × ShapeFits (shapeAt shape) × Onward (now table) rules (now index) 3584 shape × ByKind (now table) rules (now kinds)
+        × (length (now firings) ≡ 2048) × (length (now targets) ≡ 2048) ⌝ }
+    ensures { λ k. ⌜ (length (now (firings .exit)) ≡ 2048) × (length (now (targets .exit)) ≡ 2048)
+        × ShapeNotes (now (table .entry)) rules (now (index .entry)) (now (firings .exit)) (now (targets .exit)) shape 0 k ⌝ }
+{
+    let kind = shape / 278 + 1;
+    let digits = sheet::digits(shape % 278 + 1);
+    let mut k: usize = 0;
+    let mut r = next_fire(table, rules, kinds, kind, kind, digits);
+    while r < rules {
+        let heads = rule_byte(table, r, 28);
+        let mut h: usize = 0;
+        while h < heads {
+            let code = made(table, rules, r, h, digits);
+            note(firings, targets, k, 8 * r + 2 * h, index[code]);
+            k += 1;
+            h += 1;
+        }
+        r = next_fire(table, rules, kinds, 65 + r, kind, digits);
+    }
+    k
+}
+
+// Follows the links of the notes from `first` on and before `end`, those on shape `s`.
+fn follow_noted(
+    table: &[u8; 16384],
+    n: usize,
+    s: usize,
+    firings: &[u16; 2048],
+    targets: &[u16; 2048],
+    first: usize,
+    end: usize,
+    generations: &mut [[u16; 7]; 512],
+    from: &mut [[u16; 7]; 512],
+    links: &mut [[u16; 7]; 512],
+    waiting: &mut [u8; 512],
+    before: usize,
+) -> usize
+    requires { ⌜ (length (now table) ≡ 16384) × (length (now firings) ≡ 2048) × (length (now targets) ≡ 2048) × (first ≤ end) × (end ≤ 2048) × ((k : ℕ) → first ≤ k → k < end → NoteFits (now table) (now firings) (now targets) n k) × Live n (now generations) (now from) (now links) (now waiting) before × (7 * s + 7 ≤ n) ⌝ }
+    ensures { λ r. ⌜ Done n (NotesE (now (table .entry)) (now (firings .entry)) (now (targets .entry)) s first end) (now (generations .entry)) (now (from .entry)) (now (links .entry)) (now (waiting .entry)) before (now (generations .exit)) (now (from .exit)) (now (links .exit)) (now (waiting .exit)) r ⌝ }
+{
+    let mut last = before;
+    let mut k = first;
+    while k < end {
+        let link = firings[k] as usize;
+        last = follow_head(
+            table,
+            n,
+            s,
+            link / 8,
+            link / 2 % 4,
+            targets[k] as usize,
+            generations,
+            from,
+            links,
+            waiting,
+            last,
+        );
+        k += 1;
+    }
+    last
+}
+
+// Follows all links from shape `s`: by the notes of the search, where it had room for them, and otherwise by notes that are made anew.
 fn follow_shape(
     table: &[u8; 16384],
     rules: usize,
     kinds: &[u16; 321],
     shape: usize,
     index: &[u16; 17792],
+    firings: &[u16; 2048],
+    targets: &[u16; 2048],
+    starts: &[u32; 513],
     n: usize,
     s: usize,
     generations: &mut [[u16; 7]; 512],
@@ -177,36 +289,52 @@ fn follow_shape(
     waiting: &mut [u8; 512],
     before: usize,
 ) -> usize
-    requires { ⌜ TableFits (now table) rules × (length (now index) ≡ 17792) × (shape < 17792) × ShapeFits (shapeAt shape) × Onward (now table) rules (now index) n shape × Live n (now generations) (now from) (now links) (now waiting) before × (7 * s + 7 ≤ n) × ByKind (now table) rules (now kinds) ⌝ }
+    requires { ⌜ TableFits (now table) rules × (length (now index) ≡ 17792) × (shape < 17792) × ShapeFits (shapeAt shape) × Onward (now table) rules (now index) n shape × Live n (now generations) (now from) (now links) (now waiting) before × (7 * s + 7 ≤ n) × ByKind (now table) rules (now kinds)
+        × (length (now firings) ≡ 2048) × (length (now targets) ≡ 2048) × (length (now starts) ≡ 513)
+        × (getD (now starts) (s + 1) 0 ≤ 2048 → ShapeNotes (now table) rules (now index) (now firings) (now targets) shape (getD (now starts) s 0) (getD (now starts) (s + 1) 0)) ⌝ }
     ensures { λ r. ⌜ Done n (ShapeE (now (table .entry)) rules (now (index .entry)) shape s) (now (generations .entry)) (now (from .entry)) (now (links .entry)) (now (waiting .entry)) before (now (generations .exit)) (now (from .exit)) (now (links .exit)) (now (waiting .exit)) r ⌝ }
 {
-    let kind = shape / 278 + 1;
-    let digits = sheet::digits(shape % 278 + 1);
-    let mut last = before;
-    let mut r = next_fire(table, rules, kinds, kind, kind, digits);
-    while r < rules {
-        let heads = rule_byte(table, r, 28);
-        let mut h: usize = 0;
-        while h < heads {
-            let t = index[made(table, rules, r, h, digits)] as usize - 1;
-            last = follow_head(
-                table,
-                n,
-                s,
-                r,
-                h,
-                t,
-                generations,
-                from,
-                links,
-                waiting,
-                last,
-            );
-            h += 1;
-        }
-        r = next_fire(table, rules, kinds, 65 + r, kind, digits);
+    if starts[s + 1] <= 2048 {
+        return follow_noted(
+            table,
+            n,
+            s,
+            firings,
+            targets,
+            starts[s] as usize,
+            starts[s + 1] as usize,
+            generations,
+            from,
+            links,
+            waiting,
+            before,
+        );
     }
-    last
+    let mut firings_here = [0u16; 2048];
+    let mut targets_here = [0u16; 2048];
+    let end = note_shape(
+        table,
+        rules,
+        kinds,
+        shape,
+        index,
+        &mut firings_here,
+        &mut targets_here,
+    );
+    follow_noted(
+        table,
+        n,
+        s,
+        &firings_here,
+        &targets_here,
+        0,
+        end,
+        generations,
+        from,
+        links,
+        waiting,
+        before,
+    )
 }
 
 // Follows the links of each waiting shape once. Answers what was raised last.
@@ -216,13 +344,16 @@ fn sweep(
     kinds: &[u16; 321],
     shapes: &[u32; 512],
     index: &[u16; 17792],
+    firings: &[u16; 2048],
+    targets: &[u16; 2048],
+    starts: &[u32; 513],
     count: usize,
     generations: &mut [[u16; 7]; 512],
     from: &mut [[u16; 7]; 512],
     links: &mut [[u16; 7]; 512],
     waiting: &mut [u8; 512],
 ) -> usize
-    requires { ⌜ TableFits (now table) rules × Closed (tableRules (now table) rules) (now shapes) (now index) count × Live (7 * count) (now generations) (now from) (now links) (now waiting) 0 × ((u v link : ℕ) → EachE (now table) rules (now shapes) (now index) count u v link → Rests (now generations) (now waiting) u v link) × ByKind (now table) rules (now kinds) ⌝ }
+    requires { ⌜ TableFits (now table) rules × Closed (tableRules (now table) rules) (now shapes) (now index) count × Live (7 * count) (now generations) (now from) (now links) (now waiting) 0 × ((u v link : ℕ) → EachE (now table) rules (now shapes) (now index) count u v link → Rests (now generations) (now waiting) u v link) × ByKind (now table) rules (now kinds) × Noted (now table) rules (now shapes) (now index) (now firings) (now targets) (now starts) count ⌝ }
     ensures { λ r. ⌜ Swept (7 * count) (EachE (now (table .entry)) rules (now (shapes .entry)) (now (index .entry)) count) count (now (generations .entry)) (now (from .entry)) (now (links .entry)) (now (generations .exit)) (now (from .exit)) (now (links .exit)) (now (waiting .exit)) r ⌝ }
 {
     let n = 7 * count;
@@ -237,6 +368,9 @@ fn sweep(
                 kinds,
                 shapes[s] as usize,
                 index,
+                firings,
+                targets,
+                starts,
                 n,
                 s,
                 generations,
@@ -283,16 +417,19 @@ pub(crate) fn spread(
     kinds: &[u16; 321],
     shapes: &[u32; 512],
     index: &[u16; 17792],
+    firings: &[u16; 2048],
+    targets: &[u16; 2048],
+    starts: &[u32; 513],
     count: usize,
     generations: &mut [[u16; 7]; 512],
     from: &mut [[u16; 7]; 512],
     links: &mut [[u16; 7]; 512],
 ) -> usize
-    requires { ⌜ TableFits (now table) rules × Closed (tableRules (now table) rules) (now shapes) (now index) count × Zeros (now generations) × Grid (now from) × Grid (now links) × ByKind (now table) rules (now kinds) ⌝ }
+    requires { ⌜ TableFits (now table) rules × Closed (tableRules (now table) rules) (now shapes) (now index) count × Zeros (now generations) × Grid (now from) × Grid (now links) × ByKind (now table) rules (now kinds) × Noted (now table) rules (now shapes) (now index) (now firings) (now targets) (now starts) count ⌝ }
     ensures { λ r. ⌜ Spreads (tableRules (now (table .entry)) rules) (now (shapes .entry)) count (now (generations .exit)) (now (from .exit)) (now (links .exit)) r ⌝ }
 {
     let n = 7 * count;
-    let mut waiting = [1u8; 512];
+    let mut waiting = first_waiting(table, rules, shapes, count);
     let mut turning: usize = 0;
     loop {
         let last = sweep(
@@ -301,6 +438,9 @@ pub(crate) fn spread(
             kinds,
             shapes,
             index,
+            firings,
+            targets,
+            starts,
             count,
             generations,
             from,

@@ -1,4 +1,5 @@
 -- The laws that the proofs of this crate rest on, and the theorems for a reader: PatternTheorems.
+pub mod ListLaws
 pub mod PatternLaws
 pub mod PatternRank
 pub mod PatternRows

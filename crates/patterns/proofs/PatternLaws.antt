@@ -5,9 +5,11 @@ use mathlib.Core.List.{List, [], _∷_, map}
 use Prim.Native.Nat.{ℕ, zero, suc, _+_, _≤_, _<_, max}
 use native.Mathlib.Nat.{add-zero, zero-add, add-suc, suc-add}
 use native.Mathlib.Omega.{arith}
-use lib.ListN.{length, getD, drop}
+use lib.ListN.{length, getD, drop, length-map}
 use lib.Seq.{drop-cons}
+use Rattle.patterns.specs.Lists.{In, All}
 use Rattle.patterns.specs.Pattern.{pick, index, add, addAll, pattern}
+use Rattle.patterns.proofs.ListLaws.{in-getD}
 
 pub pick-iff : {P Q A : Type 0} (a b : A) → (P → Q) → (Q → P) → (p : Dec P) (q : Dec Q) → pick p a b ≡ pick q a b
 pick-iff a b f g (yes p) (yes q) = refl
@@ -22,30 +24,6 @@ pick-yes a b (no h) q = absurd (h q)
 pub pick-no : {P A : Type 0} (a b : A) (p : Dec P) → (P → ⊥) → pick p a b ≡ b
 pick-no a b (yes p) k = absurd (k p)
 pick-no a b (no h) k = refl
-
--- A property of every element of a list.
-abbrev pub All : {A : Type 0} → (A → Type 0) → List A → Type 0
-All P [] = Unit {0}
-All P (x ∷ xs) = P x × All P xs
-
--- Membership.
-abbrev pub In : {A : Type 0} → A → List A → Type 0
-In x [] = ⊥
-In x (y ∷ ys) = (x ≡ y) ⊎ In x ys
-
-pub all-in : {A : Type 0} (P : A → Type 0) (l : List A) → ((x : A) → In x l → P x) → All P l
-all-in P [] h = tt
-all-in P (x ∷ l) h = (h x (inl refl), all-in P l (λ y m. h y (inr m)))
-
-pub in-all : {A : Type 0} (P : A → Type 0) (l : List A) → All P l → (x : A) → In x l → P x
-in-all P [] a x m = absurd m
-in-all P (y ∷ l) a x (inl e) = subst P (sym e) (a .0)
-in-all P (y ∷ l) a x (inr m) = in-all P l (a .1) x m
-
-pub in-getD : {A : Type 0} (l : List A) (k : ℕ) (e : A) → k < length l → In (getD l k e) l
-in-getD [] k e h = let z : ⊥ = omega arith in absurd z
-in-getD (x ∷ l) zero e h = inl refl
-in-getD (x ∷ l) (suc k) e h = inr (in-getD l k e (omega arith))
 
 -- The places k, k + 1, and so on, n of them.
 abbrev pub places : ℕ → ℕ → List ℕ
@@ -166,18 +144,6 @@ module _ {A : Type 0} (d : Discrete A) where
   pub length-add-le : (x : A) (l : List A) → length (add d x l) ≤ suc (length l)
   length-add-le x l = omega (arith, length-add x l, index-le x l)
 
-  pub all-add : (P : A → Type 0) (x : A) (l : List A) → P x → All P l → All P (add d x l)
-  all-add P x [] p a = (p, tt)
-  all-add P x (z ∷ l) p a = go (d x z) (all-add P x l p (a .1))
-    where
-      go : (q : Dec (x ≡ z)) → All P (add d x l) → All P (pick q (z ∷ l) (z ∷ add d x l))
-      go (yes q) ih = a
-      go (no h) ih = (a .0, ih)
-
-  pub all-addAll : (P : A → Type 0) (xs l : List A) → All P xs → All P l → All P (addAll d xs l)
-  all-addAll P [] l a b = b
-  all-addAll P (x ∷ xs) l a b = all-addAll P xs (add d x l) (a .1) (all-add P x l (a .0) b)
-
   pub addAll-keeps : (y : A) (xs l : List A) → In y l → In y (addAll d xs l)
   addAll-keeps y [] l m = m
   addAll-keeps y (x ∷ xs) l m = addAll-keeps y xs (add d x l) (add-keeps x y l m)
@@ -241,16 +207,12 @@ module _ {A : Type 0} (d : Discrete A) where
   pub pattern-from : (xs : List A) → pattern d xs ≡ digitsFrom [] xs
   pattern-from xs = digits-from [] xs
 
-  pub length-pattern : (xs : List A) → length (pattern d xs) ≡ length xs
-  length-pattern xs = go xs
-    where
-      go : (ys : List A) → length (map (λ x. suc (index d x (addAll d xs []))) ys) ≡ length ys
-      go [] = refl
-      go (y ∷ ys) = ap suc (go ys)
-
   -- The digit of a field.
   abbrev pub digit : List A → A → ℕ
   digit xs x = suc (index d x (addAll d xs []))
+
+  pub length-pattern : (xs : List A) → length (pattern d xs) ≡ length xs
+  length-pattern xs = length-map xs (digit xs)
 
   pub digit-inj : (xs : List A) (x y : A) → In x xs → digit xs x ≡ digit xs y → x ≡ y
   digit-inj xs x y m e = index-inj x y (addAll d xs []) (addAll-has x xs [] m) (omega arith)

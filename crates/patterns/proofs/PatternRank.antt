@@ -2,17 +2,19 @@
 -- before it. Assumes nothing.
 use mathlib.Core.Path.{_≡_, refl, sym, _∙_, ap, ap₂, subst}
 use mathlib.Core.Bool.{Bool, true, false, _&&_}
-use mathlib.Core.Logic.{⊎-elim, inl, inr}
-use mathlib.Core.List.{List, [], _∷_, _++_, map}
+use mathlib.Core.Logic.{⊎-elim, inl}
+use mathlib.Core.List.{List, [], _∷_, map}
 use Prim.Native.Nat.{ℕ, zero, suc, _+_, _-_, _*_, _<_, _≤_, min, max}
 use native.Mathlib.Nat.{add-zero, zero-add, add-suc, suc-add, eq-or-lt-of-le}
 use native.Mathlib.Decide.{ℕ-discrete, decLt}
 use native.Mathlib.Omega.{arith}
 use lib.Dec.{T, leb, eqb, leb→le, le→leb, eqb→eq}
 use lib.ListN.{length, getD}
+use Rattle.patterns.specs.Lists.{In}
 use Rattle.patterns.specs.Pattern.{index, add, pattern, led, goingOn, patternsTo, patterns, lists-discrete, numberOf}
 use Rattle.patterns.specs.PatternTable.{appears, lower, earlier, Pattern}
-use Rattle.patterns.proofs.PatternLaws.{In, digitsFrom, pattern-from, length-pattern, length-add, index-le, index-lt, in-index, getD-index, index-add, index-add-self, index-add-other}
+use Rattle.patterns.proofs.ListLaws.{in-left, in-right, in-map}
+use Rattle.patterns.proofs.PatternLaws.{digitsFrom, pattern-from, length-pattern, length-add, index-le, index-lt, in-index, getD-index, index-add, index-add-self, index-add-other}
 
 pub both-left : (a b : Bool) → T (a && b) → T a
 both-left true b t = tt
@@ -107,20 +109,6 @@ right-at k h =
     }
 
 -- NONE IS MISSING.
-in-left : {A : Type 0} (x : A) (l r : List A) → In x l → In x (l ++ r)
-in-left x [] r m = absurd m
-in-left x (y ∷ l) r (inl e) = inl e
-in-left x (y ∷ l) r (inr m) = inr (in-left x l r m)
-
-in-right : {A : Type 0} (x : A) (l r : List A) → In x r → In x (l ++ r)
-in-right x [] r m = m
-in-right x (y ∷ l) r m = inr (in-right x l r m)
-
-in-map : {A B : Type 0} (f : A → B) (x : A) (l : List A) → In x l → In (f x) (map f l)
-in-map f x [] m = absurd m
-in-map f x (y ∷ l) (inl e) = inl (ap f e)
-in-map f x (y ∷ l) (inr m) = inr (in-map f x l m)
-
 in-led : (rest : ℕ → List (List ℕ)) (n d j : ℕ) (p : List ℕ) → d ≤ j → j < d + n → In p (rest j) → In (j ∷ p) (led rest d n)
 unfolding led
 in-led rest zero d j p lo hi m = let z : ⊥ = omega arith in absurd z

@@ -1,57 +1,65 @@
 -- The constant tables: six places for each pattern, the counts of ways, and the first numbers. Assumes nothing.
 use mathlib.Core.Path.{_≡_, refl, sym, _∙_, ap}
 use mathlib.Core.Bool.{cond}
-use mathlib.Core.Logic.{_⊎_, inl, inr}
+use mathlib.Core.Logic.{_⊎_, inl, inr, by-cases}
 use mathlib.Core.List.{List, [], _∷_, _++_}
-use Prim.Native.Nat.{ℕ, zero, suc, _+_, _-_, _*_, _<_, _≤_}
+use Prim.Native.Nat.{ℕ, zero, suc, _+_, _-_, _*_, _/_, _<_, _≤_}
 use native.Mathlib.Nat.{add-zero, zero-add, add-suc, suc-add}
 use native.Mathlib.Omega.{arith}
-use borrow.Author.Tests.{le-leb}
+use native.Mathlib.Decide.{decLe}
+use borrow.Author.Tests.{le-leb, lt-leb}
 use lib.Dec.{leb}
-use lib.ListN.{length, getD, take, drop, length-drop, List·getD-eq-default}
+use lib.ListN.{length, getD, take, drop, length-append, length-drop, List·getD-eq-default}
 use lib.Seq.{take-at, drop-append-add, length-take-le, getD-take, getD-drop}
 use Rattle.patterns.specs.Outcome.{padded}
-use Rattle.patterns.specs.Pattern.{patterns, digitsOf}
+use Rattle.patterns.specs.Pattern.{patterns, digitsOf, rows, patternTable, digitsIn}
+use Rattle.patterns.proofs.ListLaws.{length-padded}
 use Rattle.patterns.proofs.PatternRank.{count, ways, first}
 
--- Rows of six places, one after the other.
-unfoldable pub flat : List (List ℕ) → List ℕ
-flat [] = []
-flat (p ∷ ps) = padded 6 p ++ flat ps
-
-unfoldable pub table : List ℕ
-table = flat patterns
-
-length-padded : (n : ℕ) (p : List ℕ) → length (padded n p) ≡ n
-length-padded zero p = refl
-length-padded (suc n) [] = ap suc (length-padded n [])
-length-padded (suc n) (d ∷ p) = ap suc (length-padded n p)
-
-flat-row : (ps : List (List ℕ)) (k : ℕ) → k < length ps → take 6 (drop (6 * k) (flat ps)) ≡ padded 6 (getD ps k [])
-unfolding flat
-flat-row [] k h = let z : ⊥ = omega arith in absurd z
-flat-row (p ∷ ps) zero h = take-at (padded 6 p) (flat ps) 6 (length-padded 6 p)
-flat-row (p ∷ ps) (suc k) h =
+rows-row : (ps : List (List ℕ)) (k : ℕ) → k < length ps → take 6 (drop (6 * k) (rows ps)) ≡ padded 6 (getD ps k [])
+unfolding rows
+rows-row [] k h = let z : ⊥ = omega arith in absurd z
+rows-row (p ∷ ps) zero h = take-at (padded 6 p) (rows ps) 6 (length-padded 6 p)
+rows-row (p ∷ ps) (suc k) h =
     let s = length-padded 6 p in
     let e : 6 * suc k ≡ length (padded 6 p) + 6 * k = omega arith in
-    ap (λ (j : ℕ). take 6 (drop j (padded 6 p ++ flat ps))) e
-    ∙ ap (take 6) (drop-append-add (padded 6 p) (flat ps) (6 * k))
-    ∙ flat-row ps k (omega arith)
+    ap (λ (j : ℕ). take 6 (drop j (padded 6 p ++ rows ps))) e
+    ∙ ap (take 6) (drop-append-add (padded 6 p) (rows ps) (6 * k))
+    ∙ rows-row ps k (omega arith)
 
--- The row of a number holds its digits.
-pub table-row : (number : ℕ) → (number ≡ 0 → ⊥) → number ≤ 278 → take 6 (drop (6 * (number - 1)) table) ≡ digitsOf number
-unfolding table digitsOf
-table-row zero lo hi = absurd (lo refl)
-table-row (suc k) lo hi =
+length-rows : (ps : List (List ℕ)) → length (rows ps) ≡ 6 * length ps
+unfolding rows
+length-rows [] = refl
+length-rows (p ∷ ps) = length-append (padded 6 p) (rows ps) ∙ omega (arith, length-padded 6 p, length-rows ps)
+
+-- A row of a lent table, and where there is none.
+pub row-there : (table : List ℕ) (number : ℕ) → (number ≡ 0 → ⊥) → number ≤ length table / 6 → take 6 (drop (6 * (number - 1)) table) ≡ digitsIn table number
+row-there table zero lo hi = absurd (lo refl)
+row-there table (suc k) lo hi =
     let e : 6 * (suc k - 1) ≡ 6 * k = omega arith in
-    ap (λ (j : ℕ). take 6 (drop j (flat patterns))) e ∙ flat-row patterns k (omega (arith, count))
+    ap (λ (j : ℕ). take 6 (drop j table)) e ∙ rw (le-leb (6 * suc k) (length table) (omega arith))
 
--- Where there is no pattern, there is no digit.
-pub digits-none : (number : ℕ) → (number ≡ 0) ⊎ (278 < number) → 0 ∷ 0 ∷ 0 ∷ 0 ∷ 0 ∷ 0 ∷ [] ≡ digitsOf number
-unfolding digitsOf
-digits-none zero h = refl
-digits-none (suc k) (inl e) = let z : ⊥ = omega arith in absurd z
-digits-none (suc k) (inr l) = ap (padded 6) (sym (List·getD-eq-default patterns [] {n = k} (omega (arith, count))))
+pub row-none : (table : List ℕ) (number : ℕ) → (number ≡ 0) ⊎ (length table / 6 < number) → 0 ∷ 0 ∷ 0 ∷ 0 ∷ 0 ∷ 0 ∷ [] ≡ digitsIn table number
+row-none table zero h = refl
+row-none table (suc k) (inl e) = let z : ⊥ = omega arith in absurd z
+row-none table (suc k) (inr l) = rw (lt-leb (6 * suc k) (length table) (omega arith))
+
+-- THE ROWS. The rows of the table of patterns are the patterns' digits.
+pub table-rows : (number : ℕ) → digitsIn patternTable number ≡ digitsOf number
+unfolding patternTable digitsOf
+table-rows zero = refl
+table-rows (suc k) = by-cases (decLe (suc k) 278) there none
+  where
+    size : length (rows patterns) ≡ 1668
+    size = length-rows patterns ∙ omega (arith, count)
+
+    there : suc k ≤ 278 → digitsIn (rows patterns) (suc k) ≡ padded 6 (getD patterns k [])
+    there h = rw (le-leb (6 * suc k) (length (rows patterns)) (omega (arith, size))) (rows-row patterns k (omega (arith, count)))
+
+    none : (suc k ≤ 278 → ⊥) → digitsIn (rows patterns) (suc k) ≡ padded 6 (getD patterns k [])
+    none h =
+        rw (lt-leb (6 * suc k) (length (rows patterns)) (omega (arith, size)))
+        (ap (padded 6) (sym (List·getD-eq-default patterns [] {n = k} (omega (arith, count)))))
 
 -- A list by its entries: f k, f (k + 1), and so on, n of them.
 unfoldable pub entries : {A : Type 0} → (ℕ → A) → ℕ → ℕ → List A

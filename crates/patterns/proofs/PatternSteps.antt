@@ -9,7 +9,8 @@ use borrow.Author.Count.{below-none, below-more}
 use lib.ListN.{length, getD, drop, set, replicate, length-set, length-drop, drop-of-length-le}
 use lib.Seq.{drop-cons, getD-set-same, getD-set-other}
 use Rattle.patterns.specs.Pattern.{index, add, pattern, numberOf}
-use Rattle.patterns.proofs.PatternLaws.{in-getD, index-le, index-here, index-next, index-first, getD-index, length-add, index-add-other, digitsFrom, pattern-from, length-pattern, getD-pattern}
+use Rattle.patterns.proofs.ListLaws.{in-getD}
+use Rattle.patterns.proofs.PatternLaws.{index-le, index-here, index-next, index-first, getD-index, length-add, index-add-other, digitsFrom, pattern-from, length-pattern, getD-pattern}
 use Rattle.patterns.proofs.PatternRank.{ways, first, rankFrom, rankFrom-grows, placed, has-pattern}
 
 -- THE SEARCH for the first field that equals field i: none of those before `place` does.

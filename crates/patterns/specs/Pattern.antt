@@ -1,12 +1,11 @@
 -- The pattern of a record, the 278 patterns of one to six fields, and their numbers. Assumes nothing.
 use mathlib.Core.Path.{_≡_, refl}
-use mathlib.Core.Bool.{cond, _||_}
+use mathlib.Core.Bool.{cond, _||_, false≢true}
 use mathlib.Core.List.{List, [], _∷_, _++_, map}
-use Prim.Native.Nat.{ℕ, zero, suc, _+_, max}
+use Prim.Native.Nat.{ℕ, zero, suc, _*_, max}
 use native.Mathlib.Decide.{ℕ-discrete}
-use native.Mathlib.Omega.{arith}
-use lib.Dec.{eqb, ltb}
-use lib.ListN.{length, getD}
+use lib.Dec.{eqb, leb, ltb}
+use lib.ListN.{length, getD, take, drop}
 use Rattle.patterns.specs.Outcome.{Outcome, good, refused, padded}
 use Rattle.patterns.specs.declared.PatternAnswer.{PatternAnswer}
 use Rattle.patterns.specs.declared.PatternAnswer.the-variants.{Number, FieldCount}
@@ -61,14 +60,11 @@ dec-cons (no h) q = no (λ e. h cc)
 dec-cons (yes p) (no h) = no (λ e. h cc)
 dec-cons (yes p) (yes q) = yes cc
 
-zero-one : _≡_ {A = ℕ} 0 1 → ⊥
-zero-one e = omega arith
-
 unfoldable pub lists-discrete : {A : Type 0} → Discrete A → Discrete (List A)
-unfolding dec-cons zero-one
+unfolding dec-cons
 lists-discrete d [] [] = yes refl
-lists-discrete d [] (y ∷ ys) = no (λ e. zero-one cc)
-lists-discrete d (x ∷ xs) [] = no (λ e. zero-one cc)
+lists-discrete d [] (y ∷ ys) = no (λ e. false≢true cc)
+lists-discrete d (x ∷ xs) [] = no (λ e. false≢true cc)
 lists-discrete d (x ∷ xs) (y ∷ ys) = dec-cons (d x y) (lists-discrete d xs ys)
 
 -- The number of a pattern, from 1.
@@ -88,3 +84,17 @@ patternSays FieldCount = refused 10 0
 unfoldable pub digitsOf : ℕ → List ℕ
 digitsOf zero = padded 6 []
 digitsOf (suc k) = padded 6 (getD patterns k [])
+
+-- Lists of digits one after the other, six places each.
+unfoldable pub rows : List (List ℕ) → List ℕ
+rows [] = []
+rows (p ∷ ps) = padded 6 p ++ rows ps
+
+-- What `pattern_table` answers.
+unfoldable pub patternTable : List ℕ
+patternTable = rows patterns
+
+-- What `digits_in` answers: row `number` of a lent table, from 1; all 0 where it has no such row.
+abbrev pub digitsIn : List ℕ → ℕ → List ℕ
+digitsIn table zero = padded 6 []
+digitsIn table (suc k) = cond (leb (6 * suc k) (length table)) (take 6 (drop (6 * k) table)) (padded 6 [])

@@ -3,7 +3,7 @@ ghost use mathlib.Core.Path.{_≡_};
 ghost use Prim.Native.Nat.{_+_, _<_, _≤_};
 ghost use native.Mathlib.Decide.{ℕ-discrete};
 ghost use lib.ListN.{length, getD, take, drop};
-ghost use Rattle.patterns.specs.Pattern.{index, patternOf, patternSays, digitsOf};
+ghost use Rattle.patterns.specs.Pattern.{index, patternOf, patternSays, digitsOf, patternTable, digitsIn};
 
 // What pattern answers: the number of the pattern, or that there is no number or more than six.
 pub enum PatternAnswer {
@@ -359,9 +359,9 @@ const PATTERNS: [u8; 1668] = *b"\
 \x01\x02\x03\x04\x05\x05\
 \x01\x02\x03\x04\x05\x06";
 
-// The six digits at `at`. The table is lent, so that it is built once.
-fn row(table: &[u8; 1668], at: usize) -> [u8; 6]
-    requires { ⌜ (length (now table) ≡ 1668) × (at + 6 ≤ 1668) ⌝ }
+// The six digits at `at`.
+fn row(table: &[u8], at: usize) -> [u8; 6]
+    requires { ⌜ at + 6 ≤ length (now table) ⌝ }
     ensures { λ r. ⌜ r ≡ take 6 (drop at (now (table .entry))) ⌝ }
 {
     [
@@ -374,15 +374,30 @@ fn row(table: &[u8; 1668], at: usize) -> [u8; 6]
     ]
 }
 
-// The digits of pattern `number`, counted from 1, 0 past the last; all 0 where there is no such pattern.
-pub fn digits(number: usize) -> [u8; 6]
-    ensures { λ r. ⌜ r ≡ digitsOf number ⌝ }
+// The table of patterns. A constant array is built anew wherever it is named: who wants the digits of many patterns has the table once
+// and lends it to `digits_in`.
+pub fn pattern_table() -> [u8; 1668]
+    ensures { λ r. ⌜ r ≡ patternTable ⌝ }
+{
+    PATTERNS
+}
+
+// Row `number` of a lent table, counted from 1, six places each; all 0 where it has no such row.
+pub fn digits_in(table: &[u8], number: usize) -> [u8; 6]
+    ensures { λ r. ⌜ r ≡ digitsIn (now (table .entry)) number ⌝ }
 {
     if number == 0 {
         return [0; 6];
     }
-    if 278 < number {
+    if table.len() / 6 < number {
         return [0; 6];
     }
-    row(&PATTERNS, 6 * (number - 1))
+    row(table, 6 * (number - 1))
+}
+
+// The digits of pattern `number`, counted from 1, 0 past the last; all 0 where there is no such pattern.
+pub fn digits(number: usize) -> [u8; 6]
+    ensures { λ r. ⌜ r ≡ digitsOf number ⌝ }
+{
+    digits_in(&PATTERNS, number)
 }

@@ -1,15 +1,16 @@
 -- The laws of forms and of reading a line: which column counts a form has, and what the columns that were read say of the line. Assumes nothing.
 use mathlib.Core.Path.{_≡_, refl, sym, ap, subst, _∙_}
-use mathlib.Core.Bool.{Bool, true, false, cond, and-false}
+use mathlib.Core.Bool.{Bool, true, false, cond, and-false, false≢true}
 use mathlib.Core.List.{List, [], _∷_, _++_}
 use mathlib.Core.Option.{Option, none, some}
 use Prim.Native.Nat.{ℕ, zero, suc, _+_, _-_, _*_, _≤_, _<_}
 use native.Mathlib.Numerals.{add-one}
 use native.Mathlib.Omega.{arith}
 use lib.Dec.{eqb, leb}
-use lib.ListN.{length, getD, take, drop, set, length-append}
+use lib.ListN.{length, getD, take, drop, set, replicate, length-append}
 use lib.Seq.{drop-drop}
 use borrow.Author.Tests.{eqb-true, leb-true, eq-eqb, ne-eqb, le-leb, lt-leb}
+use Rattle.patterns.proofs.ListLaws.{length-padded}
 use Rattle.patterns.specs.Outcome.{padded}
 use Rattle.columns.specs.Column.{numberIn}
 use Rattle.sheet.specs.Line.{K, B, H, R, withFields, formOf, known, joined, numbersIn, lineWith, columnCount, lineIn, lent}
@@ -27,7 +28,7 @@ withFields-below c form h = simp (lt-leb 2 c h)
 pub withFields-above : (c : ℕ) (form : ℕ → Form) → 8 ≤ c → Unknown ≡ withFields c form
 withFields-above c form h = simp (le-leb 2 c (omega arith), lt-leb c 7 h)
 
-known-where : (t : Bool) (form : Form) → known (cond t form Unknown) ≡ true → (t ≡ true) × (known form ≡ true)
+pub known-where : (t : Bool) (form : Form) → known (cond t form Unknown) ≡ true → (t ≡ true) × (known form ≡ true)
 known-where true form h = (refl, h)
 known-where false form h = (h, cc)
 
@@ -64,8 +65,8 @@ record Joined (x : Option ℕ) (y : Option (List ℕ)) (ns : List ℕ) : Type 0 
   all : ns ≡ first ∷ others
 
 joined-some : (x : Option ℕ) (y : Option (List ℕ)) (ns : List ℕ) → joined x y ≡ some ns → Joined x y ns
-joined-some none y ns e = absurd (let z : _≡_ {A = ℕ} 0 1 = cc in omega arith)
-joined-some (some n) none ns e = absurd (let z : _≡_ {A = ℕ} 0 1 = cc in omega arith)
+joined-some none y ns e = absurd (false≢true cc)
+joined-some (some n) none ns e = absurd (false≢true cc)
 joined-some (some n) (some ms) ns e = record { first = n; others = ms; first-is = refl; others-are = refl; all = cc }
 
 next-column : (c : ℕ) (bytes : List ℕ) → drop (9 * c) (drop 9 bytes) ≡ drop (9 * suc c) bytes
@@ -113,8 +114,11 @@ pub record Filled (line : List ℕ) (letter : ℕ) (numbers : List ℕ) (c : ℕ
   pub count : length read ≡ c
   pub numbers-are : numbers ≡ letter ∷ padded 7 read
 
-pub none-filled : (line : List ℕ) (letter : ℕ) → Filled line letter (letter ∷ padded 7 []) 0
-none-filled line letter = record { read = []; read-is = refl; count = refl; numbers-are = refl }
+pub none-filled : (line : List ℕ) (letter : ℕ) (numbers : List ℕ) → numbers ≡ replicate 8 0 → Filled line letter (set numbers 0 letter) 0
+none-filled line letter numbers e = record { read = []; read-is = refl; count = refl; numbers-are = ap (λ (ns : List ℕ). set ns 0 letter) e }
+
+pub filled-size : {line numbers : List ℕ} {letter c : ℕ} → Filled line letter numbers c → length numbers ≡ 8
+filled-size f = ap length (f .numbers-are) ∙ ap suc (length-padded 7 (f .read))
 
 column-at : (line : List ℕ) (c : ℕ) → drop (9 * c) (drop 1 line) ≡ drop (9 * c + 1) line
 column-at line c =

@@ -9,10 +9,10 @@ use borrow.Author.Tests.{leb-true, le-leb, eqb-true, eqb-false, eq-eqb, ne-eqb}
 use lib.Dec.{eqb, leb}
 use lib.ListN.{length, getD, take, drop, length-append, take-append-drop, drop-of-length-le}
 use lib.Seq.{take-at, drop-at, take-append-seam, drop-append-seam, getD-at, drop-cons, drop-drop}
-use Rattle.patterns.specs.Outcome.{padded}
 use Rattle.columns.specs.Column.{largestNumber, placeByte, places, column, numberIn}
 use Rattle.sheet.specs.Line.{Line, columns, render, textOf, formOf, known, inRange, formOfLine, wellFormed, joined, numbersIn, lineWith, columnCount, lineIn, lent}
 use Rattle.walker.specs.Walk.{longer, linesOf, after, lineLength}
+use Rattle.patterns.proofs.ListLaws.{length-padded}
 use Rattle.columns.proofs.ColumnLaws.{length-column, numberIn-column, numberIn-is}
 
 -- Tests.
@@ -29,18 +29,13 @@ cond-some false o e = absurd (Option·none-ne-some _ e)
 
 -- Sizes.
 
-length-columns : (ns : List ℕ) → length (columns ns) ≡ 9 * length ns
+pub length-columns : (ns : List ℕ) → length (columns ns) ≡ 9 * length ns
 length-columns [] = refl
 length-columns (n ∷ ns) = omega (arith, length-append (column n) (columns ns), length-column n, length-columns ns)
 
 pub length-render : (l : Line) → length (render l) ≡ 9 * length (l .numbers) + 11
 unfolding render
 length-render l = omega (arith, length-append (columns (l .kind ∷ l .numbers)) (10 ∷ []), length-columns (l .kind ∷ l .numbers))
-
-length-padded : (w : ℕ) (ns : List ℕ) → length (padded w ns) ≡ w
-length-padded zero ns = refl
-length-padded (suc w) [] = ap suc (length-padded w [])
-length-padded (suc w) (n ∷ ns) = ap suc (length-padded w ns)
 
 pub length-lent : (l : Line) → length (lent l) ≡ 8
 unfolding lent

@@ -2,15 +2,15 @@
 use mathlib.Core.Path.{_≡_, refl, sym, subst, ap, _∙_}
 use mathlib.Core.Bool.{Bool, true, false, cond, _&&_, false≢true}
 use mathlib.Core.List.{List, [], _∷_}
-use Prim.Native.Nat.{ℕ, _+_, _≤_, _<_}
+use Prim.Native.Nat.{ℕ, zero, suc, _+_, _≤_, _<_}
 use native.Mathlib.Omega.{arith}
 use borrow.Author.Tests.{eqb-true, eqb-false, lt-ltb, le-ltb, leb-true}
 use lib.Dec.{eqb, leb, ltb}
-use lib.ListN.{length, getD, take, drop, set, length-set}
+use lib.ListN.{length, getD, take, drop, set, replicate, length-set}
 use lib.Seq.{getD-set-same, getD-set-other, getD-take, getD-drop}
 use Rattle.sheet.specs.Line.{K, B, H, R, Line, known}
 use Rattle.sheet.specs.Sheet.{inPlace, letterBefore, widthOf, kindRight, topMark, marksFrom, marksRight, linesWith, headsBefore, roomFor, refusal}
-use Rattle.sheet.specs.Inner.{Widths, Keeps, NothingSeen, AdmittedAs, Admits, placedOf, declares, marksTop}
+use Rattle.sheet.specs.Inner.{Widths, Keeps, NothingSeen, HasRoom, keptAfter, AdmittedAs, Admits, placedOf, declares, marksTop}
 use Rattle.sheet.specs.declared.Form.{Form}
 use Rattle.sheet.specs.declared.Form.the-variants.{Kind, Body, Head, Row}
 use Rattle.sheet.specs.declared.order.Seen.{Seen}
@@ -18,6 +18,12 @@ use Rattle.sheet.specs.declared.order.Admitted.{Admitted}
 use Rattle.sheet.specs.declared.order.Admitted.the-variants.{Yes, No}
 use Rattle.sheet.proofs.FormLaws.{letterOf, fieldsOf, shownFields, shownLine, Shown, line-shown}
 use Rattle.sheet.proofs.MarkLaws.{top-none, top-some}
+
+-- No width is declared.
+pub no-width : (n k : ℕ) → _≡_ {A = ℕ} (getD (replicate n 0) k 0) 0
+no-width zero k = refl
+no-width (suc n) zero = refl
+no-width (suc n) (suc k) = no-width n k
 
 -- What is kept before the first line.
 pub keeps-none : (seen : Seen) → NothingSeen seen → (widths : List ℕ) → length widths ≡ 65 → ((k : ℕ) → getD widths k 0 ≡ 0) → Keeps [] seen widths
@@ -32,17 +38,24 @@ keeps-none seen s widths size each =
       table = record { size = size; each = each };
     }
 
+-- A refused line asks for no room.
+no-room : {A : Type 0} {number : ℕ} → (mark : ℕ) → No number ≡ Yes mark → A
+no-room mark e = absurd (false≢true cc)
+
 -- A line of a known form is answered right where the line that the lent numbers show is.
 known-admits : (f : Form) (seen : Seen) (widths numbers : List ℕ) (answer : Admitted) (after : List ℕ) → known f ≡ true → length after ≡ 65
-    → ((before : List Line) (l : Line) → Keeps before seen widths → Shown f numbers l → AdmittedAs before (shownLine f numbers) answer after)
+    → ((mark : ℕ) → answer ≡ Yes mark → HasRoom seen f)
+    → ((before : List Line) (l : Line) → Keeps before seen widths → Shown f numbers l
+    → AdmittedAs (keptAfter seen f (getD numbers 1 0)) before (shownLine f numbers) answer after)
     → Admits seen widths f numbers answer after
-known-admits f seen widths numbers answer after k size right =
+known-admits f seen widths numbers answer after k size room right =
     record {
       size = size;
+      room = room;
       unknown = λ e. absurd (false≢true (subst (λ (g : Form). known g ≡ true) e k));
       each = λ before l d keeps e lend.
           let shown = line-shown f l numbers k e lend in
-          subst (λ (x : Line). AdmittedAs before x answer after) (sym (shown .line)) (right before l keeps shown);
+          subst (λ (x : Line). AdmittedAs (keptAfter seen f (getD numbers 1 0)) before x answer after) (sym (shown .line)) (right before l keeps shown);
     }
 
 -- A test of place and of kind that refuses.
@@ -87,14 +100,14 @@ module _ (before : List Line) (l : Line) (other : eqb (l .letter) K ≡ false) {
       (tested before l) wrong e z)
 
 -- An answer that is right where r is the line's refusal.
-abbrev AnsweredAs : ℕ → List Line → Line → Admitted → List ℕ → Type 0
-AnsweredAs r before l (Yes seen) widths = (r ≡ 0) × Keeps (l ∷ before) seen widths
-AnsweredAs r before l (No number) widths = (r ≡ number) × (3 ≤ number) × (number ≤ 6)
+abbrev AnsweredAs : (ℕ → Seen) → ℕ → List Line → Line → Admitted → List ℕ → Type 0
+AnsweredAs next r before l (Yes mark) widths = (r ≡ 0) × Keeps (l ∷ before) (next mark) widths
+AnsweredAs next r before l (No number) widths = (r ≡ number) × (3 ≤ number) × (number ≤ 6)
 
-answered : {r : ℕ} (before : List Line) (l : Line) (widths : List ℕ) (answer : Admitted) → refusal before l ≡ r → AnsweredAs r before l answer widths
-    → AdmittedAs before l answer widths
-answered before l widths (Yes seen) e a = (e ∙ a .0, a .1)
-answered before l widths (No number) e a = (e ∙ a .0, a .1, a .2)
+answered : {r : ℕ} (next : ℕ → Seen) (before : List Line) (l : Line) (widths : List ℕ) (answer : Admitted) → refusal before l ≡ r
+    → AnsweredAs next r before l answer widths → AdmittedAs next before l answer widths
+answered next before l widths (Yes mark) e a = (e ∙ a .0, a .1)
+answered next before l widths (No number) e a = (e ∙ a .0, a .1, a .2)
 
 -- What is kept of the lines before serves for the test of a line's place and kind.
 place-kept : (f : Form) (before : List Line) (seen : Seen) (widths numbers : List ℕ) → Keeps before seen widths → length (shownFields f numbers) ≡ fieldsOf f
@@ -113,19 +126,19 @@ module _ (f : Form) (other : eqb (letterOf f) K ≡ false) (k : known f ≡ true
   pub misplaced : {wrong : ℕ} → length widths ≡ 65 → wrong ≡ placedOf (seen .letter) (letterOf f) (fieldsOf f) (getD widths (getD numbers 1 0) 0)
       → (wrong ≡ 0 → ⊥) → Admits seen widths f numbers (No wrong) widths
   misplaced {wrong} size e d =
-      known-admits f seen widths numbers (No wrong) widths k size
+      known-admits f seen widths numbers (No wrong) widths k size no-room
       (λ before l keeps shown.
       refusal-placed before (shownLine f numbers) other (e ∙ place-kept f before seen widths numbers keeps (shown .size)) d)
 
-  placed-admits : Placed seen widths numbers (letterOf f) (fieldsOf f) → (answer : Admitted)
+  placed-admits : Placed seen widths numbers (letterOf f) (fieldsOf f) → (answer : Admitted) → ((mark : ℕ) → answer ≡ Yes mark → HasRoom seen f)
       → ((before : List Line) → Keeps before seen widths → 1 ≤ length (shownFields f numbers)
-      → AnsweredAs (tested before (shownLine f numbers)) before (shownLine f numbers) answer widths)
+      → AnsweredAs (keptAfter seen f (getD numbers 1 0)) (tested before (shownLine f numbers)) before (shownLine f numbers) answer widths)
       → Admits seen widths f numbers answer widths
-  placed-admits p answer right =
-      known-admits f seen widths numbers answer widths k (p .size)
+  placed-admits p answer room right =
+      known-admits f seen widths numbers answer widths k (p .size) room
       (λ before l keeps shown.
       let some : 1 ≤ length (shownFields f numbers) = let h = shown .size in let h2 = shown .some in omega arith in
-      answered before (shownLine f numbers) widths answer
+      answered (keptAfter seen f (getD numbers 1 0)) before (shownLine f numbers) widths answer
       (refusal-tested before (shownLine f numbers) other (p .found ∙ place-kept f before seen widths numbers keeps (shown .size)) (p .none))
       (right before keeps some))
 
@@ -135,7 +148,7 @@ module _ (f : Form) (other : eqb (letterOf f) K ≡ false) (k : known f ≡ true
     (marks : (before : List Line) → Keeps before seen widths → marksRight before (shownLine f numbers) ≡ marksFrom m (shownFields f numbers)) where
   marked-wrong : mark ≡ 0 → Admits seen widths f numbers (No 5) widths
   marked-wrong z =
-      placed-admits f other k p (No 5)
+      placed-admits f other k p (No 5) no-room
       (λ before keeps some. (rw (marks before keeps ∙ top-none m (shownFields f numbers) some (sym e ∙ z)), omega arith, omega arith))
 
   module _ (d : mark ≡ 0 → ⊥) where
@@ -145,14 +158,14 @@ module _ (f : Form) (other : eqb (letterOf f) K ≡ false) (k : known f ≡ true
     marked-full : ((before : List Line) → Keeps before seen widths → roomFor before (shownLine f numbers) ≡ false)
         → Admits seen widths f numbers (No 6) widths
     marked-full full =
-        placed-admits f other k p (No 6) (λ before keeps some. (rw (marks before keeps ∙ right .0, full before keeps), omega arith, omega arith))
+        placed-admits f other k p (No 6) no-room (λ before keeps some. (rw (marks before keeps ∙ right .0, full before keeps), omega arith, omega arith))
 
-    marked-added : (new : Seen) → ((before : List Line) → Keeps before seen widths → roomFor before (shownLine f numbers) ≡ true)
+    marked-added : HasRoom seen f → ((before : List Line) → Keeps before seen widths → roomFor before (shownLine f numbers) ≡ true)
         → ((before : List Line) → Keeps before seen widths → mark ≡ topMark m (shownFields f numbers)
-        → Keeps (shownLine f numbers ∷ before) new widths)
-        → Admits seen widths f numbers (Yes new) widths
-    marked-added new room kept =
-        placed-admits f other k p (Yes new)
+        → Keeps (shownLine f numbers ∷ before) (keptAfter seen f (getD numbers 1 0) mark) widths)
+        → Admits seen widths f numbers (Yes mark) widths
+    marked-added has room kept =
+        placed-admits f other k p (Yes mark) (λ _ _. has)
         (λ before keeps some. (rw (marks before keeps ∙ right .0, room before keeps), kept before keeps (e ∙ right .1)))
 
 -- A placed B line.
@@ -171,11 +184,10 @@ module _ {seen : Seen} {widths numbers : List ℕ} {n mark : ℕ} (p : Placed se
       (λ before keeps. le-ltb (linesWith B before) 256 (let k = keeps .rules in omega arith))
 
   pub body-added : (mark ≡ 0 → ⊥) → seen .rules < 256
-      → Admits seen widths (Body n) numbers
-      (Yes (record { letter = B; kind = getD numbers 1 0; mark = mark; rules = seen .rules + 1; heads = 0; rows = seen .rows })) widths
+      → Admits seen widths (Body n) numbers (Yes mark) widths
   unfolding roomFor
   body-added d h =
-      marked-added (Body n) refl refl 0 p e body-right d _
+      marked-added (Body n) refl refl 0 p e body-right d h
       (λ before keeps. lt-ltb (linesWith B before) 256 (let k = keeps .rules in omega arith))
       (λ before keeps top.
       record {
@@ -204,11 +216,10 @@ module _ {seen : Seen} {widths numbers : List ℕ} {n mark : ℕ} (p : Placed se
       (λ before keeps. le-ltb (headsBefore before) 4 (let k = keeps .heads in omega arith))
 
   pub head-added : (mark ≡ 0 → ⊥) → seen .heads < 4
-      → Admits seen widths (Head n) numbers
-      (Yes (record { letter = H; kind = getD numbers 1 0; mark = mark; rules = seen .rules; heads = seen .heads + 1; rows = seen .rows })) widths
+      → Admits seen widths (Head n) numbers (Yes mark) widths
   unfolding roomFor
   head-added d h =
-      marked-added (Head n) refl refl (seen .mark) p e head-right d _
+      marked-added (Head n) refl refl (seen .mark) p e head-right d h
       (λ before keeps. lt-ltb (headsBefore before) 4 (let k = keeps .heads in omega arith))
       (λ before keeps top.
       record {
@@ -226,15 +237,14 @@ module _ {seen : Seen} {widths numbers : List ℕ} {n : ℕ} (p : Placed seen wi
   pub row-full : 1024 ≤ seen .rows → Admits seen widths (Row n) numbers (No 6) widths
   unfolding marksRight roomFor
   row-full h =
-      placed-admits (Row n) refl refl p (No 6)
+      placed-admits (Row n) refl refl p (No 6) no-room
       (λ before keeps some. (rw (le-ltb (linesWith R before) 1024 (let k = keeps .rows in omega arith)), omega arith, omega arith))
 
   pub row-added : seen .rows < 1024
-      → Admits seen widths (Row n) numbers
-      (Yes (record { letter = R; kind = getD numbers 1 0; mark = 0; rules = seen .rules; heads = 0; rows = seen .rows + 1 })) widths
+      → Admits seen widths (Row n) numbers (Yes 0) widths
   unfolding marksRight roomFor
   row-added h =
-      placed-admits (Row n) refl refl p _
+      placed-admits (Row n) refl refl p (Yes 0) (λ _ _. h)
       (λ before keeps some. (
         rw (lt-ltb (linesWith R before) 1024 (let k = keeps .rows in omega arith)),
         record {
@@ -287,23 +297,22 @@ module _ {seen : Seen} {widths numbers : List ℕ} (size : length widths ≡ 65)
   pub kind-out : inPlace (seen .letter) K ≡ false → Admits seen widths Kind numbers (No 3) widths
   unfolding refusal
   kind-out o =
-      known-admits Kind seen widths numbers (No 3) widths refl size (λ before l keeps shown. (rw (← keeps .letter, o), omega arith, omega arith))
+      known-admits Kind seen widths numbers (No 3) widths refl size no-room (λ before l keeps shown. (rw (← keeps .letter, o), omega arith, omega arith))
 
   module _ (i : inPlace (seen .letter) K ≡ true) where
     pub kind-wrong : declares (seen .kind) (getD numbers 1 0) (getD numbers 2 0) ≡ false → Admits seen widths Kind numbers (No 4) widths
     unfolding refusal kindRight
     kind-wrong w =
-        known-admits Kind seen widths numbers (No 4) widths refl size
+        known-admits Kind seen widths numbers (No 4) widths refl size no-room
         (λ before l keeps shown. (rw (← keeps .letter, i, ← keeps .kind, first-field numbers, w), omega arith, omega arith))
 
     pub kind-added : declares (seen .kind) (getD numbers 1 0) (getD numbers 2 0) ≡ true
-        → Admits seen widths Kind numbers
-        (Yes (record { letter = K; kind = getD numbers 1 0; mark = 0; rules = seen .rules; heads = 0; rows = seen .rows }))
+        → Admits seen widths Kind numbers (Yes 0)
         (set widths (getD numbers 1 0) (getD numbers 2 0))
     unfolding refusal kindRight marksRight roomFor
     kind-added w =
-        known-admits Kind seen widths numbers _ (set widths (getD numbers 1 0) (getD numbers 2 0)) refl
-        (length-set widths (getD numbers 1 0) (getD numbers 2 0) ∙ size)
+        known-admits Kind seen widths numbers (Yes 0) (set widths (getD numbers 1 0) (getD numbers 2 0)) refl
+        (length-set widths (getD numbers 1 0) (getD numbers 2 0) ∙ size) (λ _ _. tt)
         (λ before l keeps shown. (
           rw (← keeps .letter, i, ← keeps .kind, first-field numbers, w),
           record {

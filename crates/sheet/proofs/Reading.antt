@@ -1,22 +1,21 @@
--- Laws of reading: the tests line by line, then the lent numbers line by line, then what is answered. Assumes nothing.
-use mathlib.Core.Path.{_≡_, refl, sym, ap, _∙_}
-use mathlib.Core.Bool.{Bool, true, false, false≢true, and-eq-true-iff}
+-- Laws of reading: line by line its tests and its numbers, then what is answered. Assumes nothing.
+use mathlib.Core.Path.{_≡_, refl, sym, ap, _∙_, subst}
+use mathlib.Core.Bool.{false≢true, and-eq-true-iff}
 use mathlib.Core.List.{List, [], _∷_, _++_, append-assoc, append-nil}
-use mathlib.Core.Option.{Option, none, some, Option·none-ne-some}
+use mathlib.Core.Option.{Option, none, some}
 use Prim.Native.Nat.{ℕ, zero, suc, _+_, _*_, _/_, _≤_, _<_, zero-le}
 use native.Mathlib.Omega.{arith}
 use native.Mathlib.Numerals.{add-one}
 use borrow.Author.Tests.{lt-ltb, le-ltb, eq-eqb, ne-eqb}
-use lib.Dec.{eqb}
-use lib.ListN.{length, getD, take, drop, replicate, length-append, length-drop, drop-of-length-le}
-use lib.Seq.{paste, length-take-le, take-at, take-all, take-append-seam, drop-append-seam, drop-append-add, drop-drop}
+use lib.ListN.{length, getD, take, drop, replicate, length-append, length-take, length-drop, drop-of-length-le}
+use lib.Seq.{paste, length-take-le, take-at, take-all, append-snoc, drop-append-add, drop-drop}
 use Rattle.patterns.specs.Outcome.{Outcome, good, refused, mapGood, counted}
 use Rattle.sheet.specs.Answer.{refusalSays}
-use Rattle.sheet.specs.Line.{B, Line, known, inRange, formOfLine, wellFormed, lineIn, render, lent, textOf, lentOf}
+use Rattle.sheet.specs.Line.{B, Line, known, inRange, formOfLine, wellFormed, lineIn, lent, lentOf}
 use Rattle.sheet.specs.Sheet.{letterBefore, refusal}
 use Rattle.walker.specs.Walk.{linesOf, lineLength, lineAt, after}
-use Rattle.sheet.specs.Read.{inFront, goOn, checked, tested, testedIn, takenText, sheetIn, readOf, withRoom, ReadMeets}
-use Rattle.sheet.specs.Inner.{ParsedAs, FieldsFit, Keeps, NothingSeen, AdmittedAs, Admits, LinesFit, LinesFilled}
+use Rattle.sheet.specs.Read.{inFront, goOn, checked, tested, testedIn, takenText, sheetIn, readOf, withRoom, readSays, ReadMeets}
+use Rattle.sheet.specs.Inner.{ParsedAs, FieldsFit, Keeps, NothingSeen, keptAfter, AdmittedAs, Admits, Scanned}
 use Rattle.sheet.specs.declared.Form.{Form}
 use Rattle.sheet.specs.declared.Form.the-variants.{Unknown}
 use Rattle.sheet.specs.declared.Refusal.{Refusal}
@@ -31,25 +30,18 @@ use Rattle.sheet.specs.declared.Refusal.the-variants.{
   LineWrong,
   TextShort,
 }
+use Rattle.sheet.specs.declared.ReadAnswer.{ReadAnswer}
 use Rattle.sheet.specs.declared.ReadAnswer.the-variants.{Lines, Refused}
 use Rattle.sheet.specs.declared.order.Seen.{Seen}
 use Rattle.sheet.specs.declared.order.Admitted.{Admitted}
 use Rattle.sheet.specs.declared.order.Admitted.the-variants.{Yes, No}
-use Rattle.sheet.proofs.Lines.{Formed, lineIn-render, lineIn-is, length-lent, line-of-text, linesOf-split, linesOf-last, lineIn-unended}
-use Rattle.sheet.proofs.Sheets.{refused≢good, all-well-formed, sheetIn-is, length-lentOf}
+use Rattle.walker.proofs.Walking.{lineLength-le}
+use Rattle.sheet.proofs.Lines.{lineIn-is, length-lent, linesOf-split, linesOf-last, lineIn-unended}
+use Rattle.sheet.proofs.Sheets.{refused≢good, length-lentOf, render-size}
 use Rattle.sheet.proofs.FormLaws.{fields-fit}
-use Rattle.sheet.proofs.OrderLaws.{keeps-none}
+use Rattle.sheet.proofs.OrderLaws.{no-width, keeps-none}
 
 -- The line at a place.
-
-after-le : (t : Bool) (k n : ℕ) → k ≤ n → after t k ≤ suc n
-after-le true k n h = omega arith
-after-le false zero n h = zero-le
-after-le false (suc k) n h = omega arith
-
-lineLength-le : (s : List ℕ) → lineLength s ≤ length s
-lineLength-le [] = zero-le
-lineLength-le (b ∷ s) = after-le (eqb b 10) (lineLength s) (length s) (lineLength-le s)
 
 length-lineAt : (s : List ℕ) (at : ℕ) → length (lineAt s at) ≡ lineLength (drop at s)
 length-lineAt s at = length-take-le (lineLength (drop at s)) (drop at s) (lineLength-le (drop at s))
@@ -64,10 +56,6 @@ unfolding wellFormed
 read-form bytes l e u =
     let form = and-eq-true-iff (known (formOfLine l)) (inRange (l .kind ∷ l .numbers)) .0 (lineIn-is bytes l e .1) .0 in
     false≢true (sym (ap known u) ∙ form)
-
-read-long : (bytes : List ℕ) (l : Line) → lineIn bytes ≡ some l → 0 < length bytes
-read-long [] l e = absurd (Option·none-ne-some l (sym (lineIn-unended [] refl) ∙ e))
-read-long (b ∷ bytes) l e = omega arith
 
 -- What is parsed may be asked after.
 pub parsed-fit : (o : Option Line) (form : Form) (numbers : List ℕ) → ParsedAs o form numbers → FieldsFit form
@@ -90,126 +78,7 @@ first-line before s h = by-length (lineLength s) refl
         let split : linesOf s ≡ take (suc k) s ∷ linesOf (drop (suc k) s) = rw e at (linesOf-split s (omega arith)) in
         rw split
 
--- The tests, line by line.
-
-abbrev plus : ℕ → Outcome ℕ → Outcome ℕ
-plus n o = mapGood (λ m. n + m) o
-
-plus-zero : (o : Outcome ℕ) → plus 0 o ≡ o
-plus-zero (good m) = ap good (omega arith)
-plus-zero (refused number line) = refl
-
-plus-front : (n : ℕ) (l : Line) (o : Outcome (List Line)) → plus n (counted (inFront l o)) ≡ plus (n + 1) (counted o)
-plus-front n l (good ls) = ap good (omega arith)
-plus-front n l (refused number line) = refl
-
--- n lines of the text are right, up to `at`; this is kept of them, and the answer is that of the rest.
-pub record Reading (text : List ℕ) (seen : Seen) (widths : List ℕ) (at n : ℕ) : Type 0 where
-  pub before : List Line
-  pub keeps : Keeps before seen widths
-  pub count : length before ≡ n
-  pub within : at ≤ length text
-  pub few : n ≤ at
-  pub outcome : counted (sheetIn text) ≡ plus n (counted (checked takenText 3 before (linesOf (drop at text))))
-
-all-zero : (n k : ℕ) → _≡_ {A = ℕ} (getD (replicate n 0) k 0) 0
-all-zero zero k = refl
-all-zero (suc n) zero = refl
-all-zero (suc n) (suc k) = all-zero n k
-
-pub begun : (text : List ℕ) (seen : Seen) → NothingSeen seen → Reading text seen (replicate 65 0) 0 0
-unfolding sheetIn
-begun text seen nothing =
-    record {
-      before = [];
-      keeps = keeps-none seen nothing (replicate 65 0) refl (all-zero 65);
-      count = refl;
-      within = zero-le;
-      few = zero-le;
-      outcome = sym (plus-zero (counted (checked takenText 3 [] (linesOf text))));
-    }
-
-yes≢no : {seen : Seen} {number : ℕ} → Yes seen ≡ No number → ⊥
-yes≢no e = let z : _≡_ {A = ℕ} 0 1 = cc in omega arith
-
-no-number : {m n : ℕ} → No m ≡ No n → m ≡ n
-no-number e = cc
-
-module _ {text : List ℕ} {seen : Seen} {widths : List ℕ} {at n : ℕ} (r : Reading text seen widths at n) (more : at < length text) where
-  -- The answer, where the line at `at` is taken for o.
-  outcome-line : (line : List ℕ) → line ≡ lineAt text at → (o : Option Line) → lineIn line ≡ o
-      → counted (sheetIn text) ≡ plus n (counted (onward (r .before) (drop (at + length line) text) (n + 1) o))
-  outcome-line line part o taken =
-      let left : 0 < length (drop at text) = simp length-drop (omega arith) in
-      let number : suc (length (r .before)) ≡ n + 1 = omega arith in
-      let rest : drop (lineLength (drop at text)) (drop at text) ≡ drop (at + length line) text =
-      rw (part, length-lineAt) (drop-drop (lineLength (drop at text)) at text) in
-      r .outcome
-      ∙ ap (λ (a : Outcome (List Line)). plus n (counted a))
-      (first-line (r .before) (drop at text) left
-      ∙ ap (λ (s : List ℕ). onward (r .before) s (suc (length (r .before))) (lineIn (lineAt text at))) rest
-      ∙ ap (λ (k : ℕ). onward (r .before) (drop (at + length line) text) k (lineIn (lineAt text at))) number
-      ∙ ap (onward (r .before) (drop (at + length line) text) (n + 1)) (sym (ap lineIn part) ∙ taken))
-
-  pub line-taken : (line : List ℕ) → line ≡ lineAt text at → (form : Form) (numbers : List ℕ) → ParsedAs (lineIn line) form numbers
-      → (answer : Admitted) (after : List ℕ) → Admits seen widths form numbers answer after → (next : Seen) → answer ≡ Yes next
-      → Reading text next after (at + length line) (n + 1)
-  line-taken line part form numbers parsed answer after a next is = by-line (lineIn line) refl parsed
-    where
-      known-form : form ≡ Unknown → ⊥
-      known-form u = yes≢no (sym is ∙ a .unknown u)
-
-      by-line : (o : Option Line) → lineIn line ≡ o → ParsedAs o form numbers → Reading text next after (at + length line) (n + 1)
-      by-line none e unknown = absurd (known-form unknown)
-      by-line (some l) e p =
-          let admitted : AdmittedAs (r .before) l (Yes next) after = rw is at (a .each (r .before) l known-form (r .keeps) (p .0) (p .1)) in
-          let right : refusal (r .before) l ≡ 0 = admitted .0 in
-          let long : 0 < length line = read-long line l e in
-          record {
-            before = l ∷ r .before;
-            keeps = admitted .1;
-            count = omega arith;
-            within = rw part (lineAt-within text at (r .within));
-            few = omega arith;
-            outcome =
-                rw right at (outcome-line line part (some l) e) ∙ plus-front n l (checked takenText 3 (l ∷ r .before) (linesOf (drop (at + length line) text)));
-          }
-
-  pub line-refused : (line : List ℕ) → line ≡ lineAt text at → (form : Form) (numbers : List ℕ) → ParsedAs (lineIn line) form numbers
-      → (answer : Admitted) (after : List ℕ) → Admits seen widths form numbers answer after → (number : ℕ) → answer ≡ No number
-      → (counted (sheetIn text) ≡ refused number (n + 1)) × (2 ≤ number) × (number ≤ 6)
-  line-refused line part form numbers parsed answer after a number is = by-line (lineIn line) refl parsed
-    where
-      refused-on : (l : Line) (k : ℕ) → k ≡ number → 3 ≤ number
-          → plus n (counted (goOn (tested k l) (λ m. checked takenText 3 (m ∷ r .before) (linesOf (drop (at + length line) text))) (n + 1)))
-          ≡ refused number (n + 1)
-      refused-on l zero q h = absurd (omega arith)
-      refused-on l (suc k) q h = rw q
-
-      by-line : (o : Option Line) → lineIn line ≡ o → ParsedAs o form numbers
-          → (counted (sheetIn text) ≡ refused number (n + 1)) × (2 ≤ number) × (number ≤ 6)
-      by-line none e unknown =
-          let two : number ≡ 2 = no-number (sym is ∙ a .unknown unknown) in
-          (rw two (outcome-line line part none e), omega arith, omega arith)
-      by-line (some l) e p =
-          let answered : AdmittedAs (r .before) l (No number) after =
-          rw is at (a .each (r .before) l (λ u. read-form line l e (sym (p .0) ∙ u)) (r .keeps) (p .0) (p .1)) in
-          (outcome-line line part (some l) e ∙ refused-on l (refusal (r .before) l) (answered .0) (answered .1), omega arith, answered .2)
-
--- After the last line.
-module _ {text : List ℕ} {seen : Seen} {widths : List ℕ} {at n : ℕ} (r : Reading text seen widths at n) (done : length text ≤ at) where
-  outcome-end : counted (sheetIn text) ≡ plus n (counted (checked takenText 3 (r .before) []))
-  outcome-end = rw (drop-of-length-le text done) at (r .outcome)
-
-  pub ended-open : seen .letter ≡ B → counted (sheetIn text) ≡ refused 3 (n + 1)
-  ended-open e =
-      let number : suc (length (r .before)) ≡ n + 1 = omega arith in
-      rw (← number) (rw (eq-eqb (letterBefore (r .before)) B (sym (r .keeps .letter) ∙ e)) at outcome-end)
-
-  pub ended : (seen .letter ≡ B → ⊥) → counted (sheetIn text) ≡ good n
-  ended e = rw (ne-eqb (letterBefore (r .before)) B (λ q. e (r .keeps .letter ∙ q))) at outcome-end ∙ ap good (omega arith)
-
--- The lent numbers, line by line.
+-- The numbers, line by line.
 
 lentOf-more : (ls : List Line) (l : Line) → lentOf (ls ++ l ∷ []) ≡ lentOf ls ++ lent l
 lentOf-more [] l = append-nil (lent l)
@@ -223,84 +92,177 @@ numbers-put p ns start i h k =
     rw (← h) (drop-append-add p (drop (length p) start) 8 ∙ drop-drop 8 (length p) start) in
     rw (take-at p (drop (8 * i) start) (8 * i) h, take-all 8 ns (omega arith), rest, next)
 
--- i of the text's n lines are put, and the text from `at` on is that of the lines that are left. `start` is what was lent.
-pub record Filling (text start : List ℕ) (n at i : ℕ) (lines : List ℕ) : Type 0 where
-  pub put : List Line
-  pub left : List Line
-  pub read : sheetIn text ≡ good (put ++ left)
-  pub size : length put ≡ i
-  pub count : length left + i ≡ n
-  pub formed : Formed left
-  pub within : at ≤ length text
-  pub rest : drop at text ≡ textOf left
-  pub fit : 8 * n ≤ length start
-  pub holds : lines ≡ lentOf put ++ drop (8 * i) start
+-- One line's numbers more behind those that are put.
+more-put : (put : List Line) (l : Line) (start numbers eight : List ℕ) (n : ℕ) → length put ≡ n → numbers ≡ lentOf put ++ drop (8 * n) start → eight ≡ lent l
+    → paste numbers (8 * n) eight 8 ≡ lentOf (put ++ l ∷ []) ++ drop (8 * (n + 1)) start
+more-put put l start numbers eight n size holds same =
+    rw (same, holds, lentOf-more put l) (numbers-put (lentOf put) (lent l) start n (omega (arith, length-lentOf put, size)) (length-lent l))
 
-pub filling-begun : {text start : List ℕ} {n : ℕ} → LinesFit text (length start) n → Filling text start n 0 0 start
-filling-begun {text} f =
-    let whole = sheetIn-is text (f .lines) (f .read) in
+-- The tests, line by line.
+
+-- These lines in front of those of the rest.
+abbrev behind : List Line → Outcome (List Line) → Outcome (List Line)
+behind put o = mapGood (λ ls. put ++ ls) o
+
+behind-none : (o : Outcome (List Line)) → behind [] o ≡ o
+behind-none (good ls) = refl
+behind-none (refused number line) = refl
+
+behind-front : (put : List Line) (l : Line) (o : Outcome (List Line)) → behind put (inFront l o) ≡ behind (put ++ l ∷ []) o
+behind-front put l (good ls) = ap good (sym (append-snoc put l ls))
+behind-front put l (refused number line) = refl
+
+-- n lines of the text are right and their numbers put, up to `at`; this is kept of them, and the answer is that of the rest. `start` is what the numbers were.
+pub record Reading (text start : List ℕ) (seen : Seen) (widths : List ℕ) (at n : ℕ) (numbers : List ℕ) : Type 0 where
+  pub before : List Line
+  pub put : List Line
+  pub keeps : Keeps before seen widths
+  pub count : length before ≡ n
+  pub size : length put ≡ n
+  pub within : at ≤ length text
+  pub few : 20 * n ≤ at
+  pub outcome : sheetIn text ≡ behind put (checked takenText 3 before (linesOf (drop at text)))
+  pub room : 8 * (length text / 20) ≤ length start
+  pub holds : numbers ≡ lentOf put ++ drop (8 * n) start
+
+pub begun : (text start : List ℕ) (seen : Seen) → NothingSeen seen → 8 * (length text / 20) ≤ length start → Reading text start seen (replicate 65 0) 0 0 start
+unfolding sheetIn
+begun text start seen nothing room =
     record {
+      before = [];
       put = [];
-      left = f .lines;
-      read = f .read;
+      keeps = keeps-none seen nothing (replicate 65 0) refl (no-width 65);
+      count = refl;
       size = refl;
-      count = omega (arith, f .count);
-      formed = all-well-formed (f .lines) (whole .1);
       within = zero-le;
-      rest = whole .0;
-      fit = f .fit;
+      few = zero-le;
+      outcome = sym (behind-none (checked takenText 3 [] (linesOf text)));
+      room = room;
       holds = refl;
     }
 
-module _ {text start : List ℕ} {n at i : ℕ} {lines : List ℕ} (f : Filling text start n at i lines) where
-  lent-size : length (lentOf (f .put)) ≡ 8 * i
-  lent-size = omega (arith, length-lentOf (f .put), f .size)
+yes≢no : {mark number : ℕ} → Yes mark ≡ No number → ⊥
+yes≢no e = false≢true cc
 
-  pub put-size : length lines ≡ length start
-  put-size =
-      ap length (f .holds)
-      ∙ length-append (lentOf (f .put)) (drop (8 * i) start)
-      ∙ omega (arith, lent-size, length-drop (8 * i) start, f .count, f .fit)
+no-number : {m n : ℕ} → No m ≡ No n → m ≡ n
+no-number e = cc
 
-  pub line-put : i < n → (line : List ℕ) → line ≡ lineAt text at → (form : Form) (numbers : List ℕ) → ParsedAs (lineIn line) form numbers
-      → (after : List ℕ) → after ≡ paste lines (8 * i) numbers 8 → Filling text start n (at + length line) (i + 1) after
-  line-put more line part form numbers parsed after is = by-left (f .left) (f .read) (f .count) (f .formed) (f .rest)
-    where
-      by-left : (ls : List Line) → sheetIn text ≡ good (f .put ++ ls) → length ls + i ≡ n → Formed ls → drop at text ≡ textOf ls
-          → Filling text start n (at + length line) (i + 1) after
-      by-left [] read count formed rest = absurd (omega arith)
-      by-left (l ∷ ls) read count formed rest =
-          let shown : line ≡ render l =
-          part
-          ∙ ap (λ (s : List ℕ). take (lineLength s) s) rest
-          ∙ rw (line-of-text l (textOf ls) (formed .0)) (take-append-seam (render l) (textOf ls)) in
-          let taken : lineIn line ≡ some l = ap lineIn shown ∙ lineIn-render l (formed .0) in
-          let same : numbers ≡ lent l = (rw taken at parsed) .1 in
+module _ {text start : List ℕ} {seen : Seen} {widths : List ℕ} {at n : ℕ} {numbers : List ℕ} (r : Reading text start seen widths at n numbers) where
+  put-length : length (lentOf (r .put)) ≡ 8 * n
+  put-length = omega (arith, length-lentOf (r .put), r .size)
+
+  pub same-size : length numbers ≡ length start
+  same-size =
+      ap length (r .holds)
+      ∙ length-append (lentOf (r .put)) (drop (8 * n) start)
+      ∙ omega (arith, put-length, length-drop (8 * n) start, r .few, r .within, r .room)
+
+  -- A refused text.
+  pub scan-refused : (answer : ReadAnswer) (number line : ℕ) → readSays answer ≡ refused number line → sheetIn text ≡ refused number line → Scanned text answer numbers
+  scan-refused answer number line says is =
+      record { says = says ∙ sym (ap counted is); lines = λ ls e. absurd (refused≢good (sym is ∙ e)) }
+
+  module _ {line : List ℕ} (more : at < length text) (part : line ≡ lineAt text at) where
+    -- The answer, where the line at `at` is taken for o.
+    outcome-line : (o : Option Line) → lineIn line ≡ o → sheetIn text ≡ behind (r .put) (onward (r .before) (drop (at + length line) text) (n + 1) o)
+    outcome-line o taken =
+        let left : 0 < length (drop at text) = simp length-drop (omega arith) in
+        let number : suc (length (r .before)) ≡ n + 1 = omega arith in
+        let rest : drop (lineLength (drop at text)) (drop at text) ≡ drop (at + length line) text =
+        rw (part, length-lineAt) (drop-drop (lineLength (drop at text)) at text) in
+        r .outcome
+        ∙ ap (behind (r .put))
+        (first-line (r .before) (drop at text) left
+        ∙ ap (λ (s : List ℕ). onward (r .before) s (suc (length (r .before))) (lineIn (lineAt text at))) rest
+        ∙ ap (λ (k : ℕ). onward (r .before) (drop (at + length line) text) k (lineIn (lineAt text at))) number
+        ∙ ap (onward (r .before) (drop (at + length line) text) (n + 1)) (sym (ap lineIn part) ∙ taken))
+
+    module _ {form : Form} {eight : List ℕ} {answer : Admitted} {after : List ℕ} (parsed : ParsedAs (lineIn line) form eight) (a : Admits seen widths form eight answer after) where
+      -- An admitted line.
+      record Admitting (next : Seen) : Type 0 where
+        is : Line
+        taken : lineIn line ≡ some is
+        same : eight ≡ lent is
+        right : refusal (r .before) is ≡ 0
+        keeps : Keeps (is ∷ r .before) next after
+        long : 20 ≤ length line
+
+      admitting : (mark : ℕ) → answer ≡ Yes mark → Admitting (keptAfter seen form (getD eight 1 0) mark)
+      admitting mark says = by-line (lineIn line) refl parsed
+        where
+          known-form : form ≡ Unknown → ⊥
+          known-form u = yes≢no (sym says ∙ a .unknown u)
+
+          by-line : (o : Option Line) → lineIn line ≡ o → ParsedAs o form eight → Admitting (keptAfter seen form (getD eight 1 0) mark)
+          by-line none e unknown = absurd (known-form unknown)
+          by-line (some l) e p =
+              let admitted : AdmittedAs (keptAfter seen form (getD eight 1 0)) (r .before) l (Yes mark) after = rw says at (a .each (r .before) l known-form (r .keeps) (p .0) (p .1)) in
+              let (shown, formed) = lineIn-is line l e in
+              record { is = l; taken = e; same = p .1; right = admitted .0; keeps = admitted .1; long = omega (arith, ap length shown, render-size l formed) }
+
+      -- There is room for its numbers.
+      pub line-fits : (mark : ℕ) → answer ≡ Yes mark → 8 * n + 8 ≤ length numbers
+      line-fits mark says =
+          let l = admitting mark says in
+          omega (arith, l .long, rw (← part) at (lineAt-within text at (r .within)), r .few, r .room, same-size)
+
+      pub line-taken : (mark : ℕ) → answer ≡ Yes mark → (next : Seen) → next ≡ keptAfter seen form (getD eight 1 0) mark → (then : List ℕ)
+          → then ≡ paste numbers (8 * n) eight 8 → Reading text start next after (at + length line) (n + 1) then
+      line-taken mark says next kept then put =
+          let l = admitting mark says in
           record {
-            put = f .put ++ l ∷ [];
-            left = ls;
-            read = rw append-assoc read;
-            size = length-append (f .put) (l ∷ []) ∙ omega (arith, f .size);
+            before = l .is ∷ r .before;
+            put = r .put ++ l .is ∷ [];
+            keeps = subst (λ (s : Seen). Keeps (l .is ∷ r .before) s after) (sym kept) (l .keeps);
             count = omega arith;
-            formed = formed .1;
-            within = rw part (lineAt-within text at (f .within));
-            rest =
-                sym (drop-drop (length line) at text)
-                ∙ ap (drop (length line)) rest
-                ∙ ap (λ (s : List ℕ). drop (length s) (render l ++ textOf ls)) shown
-                ∙ drop-append-seam (render l) (textOf ls);
-            fit = f .fit;
-            holds = is ∙ rw (same, f .holds, lentOf-more (f .put) l) (numbers-put (lentOf (f .put)) (lent l) start i lent-size (length-lent l));
+            size = length-append (r .put) (l .is ∷ []) ∙ omega (arith, r .size);
+            within = rw part (lineAt-within text at (r .within));
+            few = omega (arith, l .long, r .few);
+            outcome =
+                rw (l .right) at (outcome-line (some (l .is)) (l .taken))
+                ∙ behind-front (r .put) (l .is) (checked takenText 3 (l .is ∷ r .before) (linesOf (drop (at + length line) text)));
+            room = r .room;
+            holds = put ∙ more-put (r .put) (l .is) start numbers eight n (r .size) (r .holds) (l .same);
           }
 
-  pub lines-put : n ≤ i → LinesFilled text start lines
-  lines-put done = by-left (f .left) (f .read) (f .count)
-    where
-      by-left : (ls : List Line) → sheetIn text ≡ good (f .put ++ ls) → length ls + i ≡ n → LinesFilled text start lines
-      by-left [] read count =
-          let all : sheetIn text ≡ good (f .put) = rw append-nil at read in
-          rw (all, lent-size) (f .holds)
-      by-left (l ∷ ls) read count = absurd (omega arith)
+      pub line-refused : (number : ℕ) → answer ≡ No number → (sheetIn text ≡ refused number (n + 1)) × (2 ≤ number) × (number ≤ 6)
+      line-refused number says = by-line (lineIn line) refl parsed
+        where
+          refused-on : (l : Line) (k : ℕ) → k ≡ number → 3 ≤ number
+              → behind (r .put) (goOn (tested k l) (λ m. checked takenText 3 (m ∷ r .before) (linesOf (drop (at + length line) text))) (n + 1))
+              ≡ refused number (n + 1)
+          refused-on l zero q h = absurd (omega arith)
+          refused-on l (suc k) q h = rw q
+
+          by-line : (o : Option Line) → lineIn line ≡ o → ParsedAs o form eight → (sheetIn text ≡ refused number (n + 1)) × (2 ≤ number) × (number ≤ 6)
+          by-line none e unknown =
+              let two : number ≡ 2 = no-number (sym says ∙ a .unknown unknown) in
+              (rw two (outcome-line none e), omega arith, omega arith)
+          by-line (some l) e p =
+              let answered : AdmittedAs (keptAfter seen form (getD eight 1 0)) (r .before) l (No number) after =
+              rw says at (a .each (r .before) l (λ u. read-form line l e (sym (p .0) ∙ u)) (r .keeps) (p .0) (p .1)) in
+              (outcome-line (some l) e ∙ refused-on l (refusal (r .before) l) (answered .0) (answered .1), omega arith, answered .2)
+
+  -- After the last line.
+  module _ (done : length text ≤ at) where
+    outcome-end : sheetIn text ≡ behind (r .put) (checked takenText 3 (r .before) [])
+    outcome-end = rw (drop-of-length-le text done) at (r .outcome)
+
+    pub ended-open : seen .letter ≡ B → sheetIn text ≡ refused 3 (n + 1)
+    ended-open e =
+        let number : suc (length (r .before)) ≡ n + 1 = omega arith in
+        rw (← number) (rw (eq-eqb (letterBefore (r .before)) B (sym (r .keeps .letter) ∙ e)) at outcome-end)
+
+    pub ended : (seen .letter ≡ B → ⊥) → Scanned text (Lines n) numbers
+    ended e =
+        let all : sheetIn text ≡ good (r .put) =
+        rw (ne-eqb (letterBefore (r .before)) B (λ q. e (r .keeps .letter ∙ q)), append-nil) at outcome-end in
+        record {
+          says = rw all (ap good (sym (r .size)));
+          lines = λ ls q.
+              let is : ls ≡ r .put = cc in
+              rw (is, r .holds) (take-at (lentOf (r .put)) (drop (8 * n) start) (8 * length (r .put)) (omega (arith, put-length, r .size)));
+        }
 
 -- What is answered.
 
@@ -324,8 +286,8 @@ module _ (text before : List ℕ) (short : length text ≤ 32768) where
   unfolding readOf
   read-tests o e = rw (le-ltb 32768 (length text) short, e)
 
-  pub read-refused : (r : Refusal) → refusalSays r ≡ counted (sheetIn text) → ReadMeets text before (Refused r) before
-  read-refused r e = by-outcome (sheetIn text) refl e
+  pub read-refused : (r : Refusal) {numbers : List ℕ} → Scanned text (Refused r) numbers → ReadMeets text before (Refused r) before
+  read-refused r scanned = by-outcome (sheetIn text) refl (scanned .says)
     where
       by-outcome : (o : Outcome (List Line)) → sheetIn text ≡ o → refusalSays r ≡ counted o → ReadMeets text before (Refused r) before
       by-outcome (good ls) q e = absurd (says≢good r (length ls) e)
@@ -333,7 +295,7 @@ module _ (text before : List ℕ) (short : length text ≤ 32768) where
           let meets : readOf text (length before / 8) ≡ refused number line = read-tests (refused number line) q in
           record { says = rw meets e; lines = rw meets }
 
-  module _ (n : ℕ) (count : good n ≡ counted (sheetIn text)) where
+  module _ {n : ℕ} {numbers : List ℕ} (scanned : Scanned text (Lines n) numbers) where
     -- The lines that are counted.
     record Counts : Type 0 where
       lines : List Line
@@ -341,25 +303,31 @@ module _ (text before : List ℕ) (short : length text ≤ 32768) where
       size : length lines ≡ n
 
     counts : Counts
-    counts = by-outcome (sheetIn text) refl count
+    counts = by-outcome (sheetIn text) refl (scanned .says)
       where
         by-outcome : (o : Outcome (List Line)) → sheetIn text ≡ o → good n ≡ counted o → Counts
         by-outcome (good ls) q e = record { lines = ls; read = q; size = cc }
         by-outcome (refused number line) q e = absurd (refused≢good (sym e))
 
-    pub read-short : length before / 8 < n → ReadMeets text before (Refused (LinesShort (length before / 8 + 1))) before
-    read-short h =
+    pub lines-short : length before / 8 < n → ReadMeets text before (Refused (LinesShort (length before / 8 + 1))) before
+    lines-short h =
         let meets : readOf text (length before / 8) ≡ refused 7 (suc (length before / 8)) =
         read-tests (good (counts .lines)) (counts .read)
         ∙ rw (lt-ltb (length before / 8) (length (counts .lines)) (omega (arith, counts .size))) in
         record { says = rw (meets, add-one); lines = rw meets }
 
-    pub read-fits : n ≤ length before / 8 → LinesFit text (length before) n
-    read-fits h = record { lines = counts .lines; read = counts .read; count = counts .size; fit = omega arith }
+    front : take (8 * n) numbers ≡ lentOf (counts .lines)
+    front = rw (counts .size) at (scanned .lines (counts .lines) (counts .read))
 
-    pub read-filled : n ≤ length before / 8 → (after : List ℕ) → LinesFilled text before after → ReadMeets text before (Lines n) after
-    read-filled h after filled =
+    front-size : length (lentOf (counts .lines)) ≡ 8 * n
+    front-size = omega (arith, length-lentOf (counts .lines), counts .size)
+
+    pub lines-held : 8 * n ≤ length numbers
+    lines-held = omega (arith, ap length front, front-size, length-take (8 * n) numbers)
+
+    pub lines-copied : n ≤ length before / 8 → (after : List ℕ) → after ≡ take (8 * n) numbers ++ drop (8 * n) before → ReadMeets text before (Lines n) after
+    lines-copied h after is =
         let meets : readOf text (length before / 8) ≡ good (counts .lines) =
         read-tests (good (counts .lines)) (counts .read)
         ∙ rw (le-ltb (length before / 8) (length (counts .lines)) (omega (arith, counts .size))) in
-        record { says = rw meets (ap good (sym (counts .size))); lines = rw meets (rw (counts .read) at filled) }
+        record { says = rw meets (ap good (sym (counts .size))); lines = rw (meets, front-size) (rw front at is) }

@@ -1,6 +1,6 @@
 -- Why an input is refused: the lines before are taken, and what follows them is wrong. Once for any input, then for text and for lent lines. Assumes nothing.
 use mathlib.Core.Path.{_≡_, refl, sym, _∙_, ap, ap₂, subst}
-use mathlib.Core.Bool.{Bool, true, false, cond}
+use mathlib.Core.Bool.{Bool, true, false, cond, false≢true}
 use mathlib.Core.Logic.{_↔_}
 use mathlib.Core.List.{List, [], _∷_, _++_, map, reverse, reverseAux, append-assoc, append-cancel-left, nil≢cons, head-eq-of-cons-eq}
 use mathlib.Core.Option.{Option, none, some, Option·none-ne-some}
@@ -18,21 +18,18 @@ use Rattle.sheet.specs.Write.{lineHeld, lineHolds, takenLent, partsOf, s
 use Rattle.sheet.specs.Refusals.{TakenAfter, TextFault, LentFault, RefusedAt, TextRefused, LentRefused}
 use Rattle.sheet.specs.Refusals.TextFault.{unfinished, formless, unfit}
 use Rattle.sheet.proofs.Lines.{lineIn-render, lineIn-is, linesOf-front, together, together-linesOf}
-use Rattle.sheet.proofs.Sheets.{refusal-number, Shows, text-shows, lent-shows, together-render, together-lent, together-parts, parts-front}
-
-good≢refused : {A : Type 0} {a : A} {n k : ℕ} → good a ≡ refused n k → ⊥
-good≢refused e = let z : _≡_ {A = ℕ} 0 1 = cc in omega arith
+use Rattle.sheet.proofs.Sheets.{refused≢good, refusal-number, Shows, text-shows, lent-shows, together-render, together-lent, together-parts, parts-front}
 
 takes≢refuses : {l : Line} {n : ℕ} → takes l ≡ refuses n → ⊥
-takes≢refuses e = let z : _≡_ {A = ℕ} 0 1 = cc in omega arith
+takes≢refuses e = false≢true cc
 
 inFront-refused : (l : Line) (o : Outcome (List Line)) (n k : ℕ) → inFront l o ≡ refused n k → o ≡ refused n k
-inFront-refused l (good ls) n k e = absurd (good≢refused e)
+inFront-refused l (good ls) n k e = absurd (refused≢good (sym e))
 inFront-refused l (refused m j) n k e = cc
 
 end-refused : (t : Bool) (m j n k : ℕ) → _≡_ {A = Outcome (List Line)} (cond t (refused m j) (good [])) (refused n k) → (t ≡ true) × (n ≡ m) × (k ≡ j)
 end-refused true m j n k e = (refl, cc, cc)
-end-refused false m j n k e = absurd (good≢refused e)
+end-refused false m j n k e = absurd (refused≢good (sym e))
 
 -- Any inputs.
 

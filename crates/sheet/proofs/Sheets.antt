@@ -1,29 +1,31 @@
 -- Sheets: the text and the lent numbers of a sheet's lines are read back as these lines, and nothing else is read. Assumes nothing.
 use mathlib.Core.Path.{_≡_, refl, sym, _∙_, ap, ap₂, subst}
-use mathlib.Core.Bool.{Bool, true, false, cond, _&&_, false≢true, and-eq-true-iff}
+use mathlib.Core.Bool.{Bool, true, false, cond, _&&_, and-eq-true-iff, false≢true}
 use mathlib.Core.List.{List, [], _∷_, _++_, map}
 use mathlib.Core.Option.{Option, none, some}
-use Prim.Native.Nat.{ℕ, zero, suc, _-_, _*_, _≤_, _<_}
+use Prim.Native.Nat.{ℕ, zero, suc, _*_, _≤_, _<_}
 use native.Mathlib.Omega.{arith}
-use borrow.Author.Tests.{leb-true, eqb-true, eqb-false, eq-eqb, ne-eqb}
-use lib.Dec.{eqb, leb, ltb}
+use borrow.Author.Tests.{eqb-true, eqb-false, eq-eqb, ne-eqb}
+use lib.Dec.{eqb, ltb}
 use lib.ListN.{length, take, drop, length-append, length-drop, take-append-drop}
 use lib.Seq.{take-at, drop-at}
 use Rattle.patterns.specs.Outcome.{Outcome, good, refused, padded}
 use Rattle.columns.specs.Column.{same}
-use Rattle.sheet.specs.Line.{K, B, H, R, Line, render, textOf, withFields, formOf, known, inRange, formOfLine, wellFormed, lineIn, lent, lentOf}
+use Rattle.sheet.specs.Line.{K, B, Line, render, textOf, formOf, known, inRange, formOfLine, wellFormed, lineIn, lent, lentOf}
 use Rattle.sheet.specs.Sheet.{letterBefore, widthOf, inPlace, kindRight, marksRight, roomFor, refusal, Continues, IsSheet}
 use Rattle.walker.specs.Walk.{linesOf}
 use Rattle.sheet.specs.Read.{Taken, takes, refuses, inFront, goOn, checked, tested, testedIn, takenText, sheetIn}
 use Rattle.sheet.specs.Write.{usedNumbers, lineHeld, lineHolds, takenLent, partsOf, sheetHeld}
-use Rattle.sheet.specs.declared.Form.{Form}
-use Rattle.sheet.specs.declared.Form.the-variants.{Kind, Body, Head, Row, Unknown}
-use Rattle.sheet.proofs.Lines.{both, drop-twice, Formed, lineIn-render, lineIn-is, length-lent, linesOf-text, together, together-linesOf}
+use Rattle.sheet.specs.declared.Form.the-variants.{Kind}
+use Rattle.columns.proofs.ColumnLaws.{same-refl, same-true}
+use Rattle.sheet.proofs.Forms.{known-where, known-columns}
+use Rattle.sheet.proofs.FormLaws.{take-padded}
+use Rattle.sheet.proofs.Lines.{both, drop-twice, Formed, lineIn-render, lineIn-is, length-render, length-lent, linesOf-text, together, together-linesOf}
 
 -- A good outcome is no refusal.
 
 pub refused≢good : {A : Type 0} {a : A} {n k : ℕ} → refused n k ≡ good a → ⊥
-refused≢good e = let z : _≡_ {A = ℕ} 0 1 = cc in omega arith
+refused≢good e = false≢true cc
 
 inFront-is : (l : Line) (o : Outcome (List Line)) (ls : List Line) → inFront l o ≡ good ls → (ms : List Line) × (o ≡ good ms) × (ls ≡ l ∷ ms)
 inFront-is l (good ms) ls e = (ms, refl, cc)
@@ -72,10 +74,10 @@ all-well-formed ls c = formed-continues [] ls c
 
 tested-is : (n : ℕ) (l m : Line) → tested n l ≡ takes m → (n ≡ 0) × (l ≡ m)
 tested-is zero l m e = (refl, cc)
-tested-is (suc n) l m e = absurd (let z : _≡_ {A = ℕ} 0 1 = cc in omega arith)
+tested-is (suc n) l m e = absurd (false≢true cc)
 
 testedIn-is : (before : List Line) (o : Option Line) (l : Line) → testedIn before o ≡ takes l → (o ≡ some l) × (refusal before l ≡ 0)
-testedIn-is before none l e = absurd (let z : _≡_ {A = ℕ} 0 1 = cc in omega arith)
+testedIn-is before none l e = absurd (false≢true cc)
 testedIn-is before (some m) l e = let (p, q) = tested-is (refusal before m) m l e in (ap some q, rw q at p)
 
 pub text-shows : Shows takenText render
@@ -160,38 +162,17 @@ pub together-lent : (ls : List Line) → together (map lent ls) ≡ lentOf ls
 together-lent [] = refl
 together-lent (l ∷ ls) = ap (λ r. lent l ++ r) (together-lent ls)
 
--- The form of a line bounds its columns.
-
-known-cond : (t u : Bool) (f : Form) → known (cond t (cond u f Unknown) Unknown) ≡ true → (t ≡ true) × (u ≡ true)
-known-cond true true f e = (refl, refl)
-known-cond true false f e = (refl, e)
-known-cond false u f e = absurd (false≢true e)
-
-known-fields : (c : ℕ) (form : ℕ → Form) → known (withFields c form) ≡ true → (2 ≤ c) × (c ≤ 7)
-known-fields c form e = let (p, q) = known-cond (leb 2 c) (leb c 7) (form (c - 1)) e in (leb-true 2 c p, leb-true c 7 q)
-
-known-kind : (c : ℕ) (t : Bool) → eqb c 2 ≡ t → known (cond t Kind Unknown) ≡ true → c ≡ 2
-known-kind c true p e = eqb-true c 2 p
-known-kind c false p e = absurd (false≢true e)
-
 -- A K line has two columns.
 known-K : (letter c : ℕ) → eqb letter K ≡ true → known (formOf letter c) ≡ true → c ≡ 2
 unfolding formOf
-known-K letter c k e = known-kind c (eqb c 2) refl (rw k at e)
+known-K letter c k e = eqb-true c 2 (known-where (eqb c 2) Kind (rw k at e) .0)
 
--- Every line has two to seven columns.
-known-count : (letter c : ℕ) → known (formOf letter c) ≡ true → (2 ≤ c) × (c ≤ 7)
-unfolding formOf
-known-count letter c e = go (eqb letter K) (eqb letter B) (eqb letter H) (eqb letter R) e
-  where
-    go : (k b h r : Bool)
-        → known (cond k (cond (eqb c 2) Kind Unknown) (cond b (withFields c Body) (cond h (withFields c Head) (cond r (withFields c Row) Unknown)))) ≡ true
-        → (2 ≤ c) × (c ≤ 7)
-    go true b h r e = let two = known-kind c (eqb c 2) refl e in (omega arith, omega arith)
-    go false true h r e = known-fields c Body e
-    go false false true r e = known-fields c Head e
-    go false false false true e = known-fields c Row e
-    go false false false false e = absurd (false≢true e)
+-- A line's text has 20 bytes or more.
+pub render-size : (l : Line) → wellFormed l ≡ true → 20 ≤ length (render l)
+unfolding wellFormed
+render-size l h =
+    let count = known-columns (l .letter) (suc (length (l .numbers))) (and-eq-true-iff (known (formOfLine l)) (inRange (l .kind ∷ l .numbers)) .0 h .0) in
+    omega (arith, length-render l)
 
 -- A line that gets no refusal passes all four tests.
 pub record Passes (before : List Line) (l : Line) : Type 0 where
@@ -228,11 +209,6 @@ refusal-number before l h = go (inPlace (letterBefore before) (l .letter)) (kind
 
 -- Lent lines.
 
-take-padded : (w : ℕ) (ns : List ℕ) → length ns ≤ w → take (length ns) (padded w ns) ≡ ns
-take-padded w [] h = refl
-take-padded zero (n ∷ ns) h = absurd (omega arith)
-take-padded (suc w) (n ∷ ns) h = ap (λ r. n ∷ r) (take-padded w ns (omega arith))
-
 -- Of a line that is not a K line, as many numbers are used as its kind has fields.
 kindRight-width : (before : List Line) (l : Line) → eqb (l .letter) K ≡ false → kindRight before l ≡ true → length (l .numbers) ≡ widthOf before (l .kind)
 unfolding kindRight
@@ -253,25 +229,13 @@ used-all before l form p = go (eqb (l .letter) K) refl
 held-lent : (before : List Line) (l : Line) → wellFormed l ≡ true → Passes before l → lineHeld before (lent l) ≡ l
 unfolding wellFormed lineHeld lent
 held-lent before l form p =
-    let six = known-count (l .letter) (suc (length (l .numbers))) (and-eq-true-iff (known (formOfLine l)) (inRange (l .kind ∷ l .numbers)) .0 form .0) in
+    let six = known-columns (l .letter) (suc (length (l .numbers))) (and-eq-true-iff (known (formOfLine l)) (inRange (l .kind ∷ l .numbers)) .0 form .0) in
     ap (λ ns. record { letter = l .letter; kind = l .kind; numbers = ns })
     (ap (λ k. take k (padded 6 (l .numbers))) (used-all before l form p) ∙ take-padded 6 (l .numbers) (omega arith))
 
-same-refl : (xs : List ℕ) → same xs xs ≡ true
-same-refl [] = refl
-same-refl (x ∷ xs) = both (eq-eqb x x refl) (same-refl xs)
-
-same-true : (xs ys : List ℕ) → same xs ys ≡ true → xs ≡ ys
-same-true [] [] e = refl
-same-true [] (y ∷ ys) e = absurd (false≢true e)
-same-true (x ∷ xs) [] e = absurd (false≢true e)
-same-true (x ∷ xs) (y ∷ ys) e =
-    let (p, q) = and-eq-true-iff (eqb x y) (same xs ys) .0 e in
-    ap₂ _∷_ (eqb-true x y p) (same-true xs ys q)
-
 cond-takes : (t : Bool) (l m : Line) (n : ℕ) → cond t (takes l) (refuses n) ≡ takes m → (t ≡ true) × (l ≡ m)
 cond-takes true l m n e = (refl, cc)
-cond-takes false l m n e = absurd (let z : _≡_ {A = ℕ} 0 1 = cc in omega arith)
+cond-takes false l m n e = absurd (false≢true cc)
 
 -- The three tests of a lent line, where it holds the line l.
 held-tests : (before : List Line) (x : List ℕ) (l : Line) → lineHeld before x ≡ l → lineHolds before x ≡ (same (lent l) x && wellFormed l && eqb (refusal before l) 0)

@@ -10,7 +10,7 @@ use native.Mathlib.Omega.{arith}
 use native.Mathlib.Decide.{ℕ-discrete}
 use borrow.Author.Tests.{lt-ltb, le-ltb, le-leb, lt-leb, eq-eqb, ne-eqb, eqb-true, leb-true, ltb-true}
 use lib.Dec.{eqb, leb, ltb}
-use lib.ListN.{length, getD, take, drop, set, replicate, length-append, length-set, length-take, length-drop, drop-of-length-le}
+use lib.ListN.{length, getD, take, drop, set, length-append, length-set, length-take, length-drop, drop-of-length-le}
 use lib.Seq.{take-all, take-nil, drop-cons, set-split, take-suc, take-at, drop-at, drop-append-add, length-take-le, paste, paste-zero, getD-drop, getD-set-same, getD-set-other}
 use Rattle.columns.specs.Column.{column, largestNumber}
 use Rattle.sheet.specs.Line.{K, B, H, R, Line, columns, render, textOf, formOf, known, inRange, formOfLine, wellFormed, lent, lentOf}
@@ -18,7 +18,7 @@ use Rattle.patterns.specs.Outcome.{Outcome, good, refused, mapGood, held, padde
 use Rattle.sheet.specs.Sheet.{letterBefore, kindBefore, widthOf, inPlace, kindRight, roomFor, linesWith, headsBefore, refusal, Continues}
 use Rattle.sheet.specs.Read.{takes, refuses, inFront, goOn, checked}
 use Rattle.sheet.specs.Write.{takenLent, lineHeld, lineHolds, partsOf, sheetHeld, WriteMeets, writeOf, writeSays, written}
-use Rattle.sheet.specs.Inner.{Widths, Keeps, Admits, AdmittedAs, TextFits, TextFilled, LinePut, sizeOf, usedOf, zeros, rangesRight}
+use Rattle.sheet.specs.Inner.{Widths, Keeps, keptAfter, Admits, AdmittedAs, TextFits, TextFilled, LinePut, sizeOf, usedOf, zeros, rangesRight}
 use Rattle.sheet.specs.declared.Refusal.the-variants.{LineWrong, TextTooLong, TextShort}
 use Rattle.sheet.specs.declared.WriteAnswer.{WriteAnswer}
 use Rattle.sheet.specs.declared.WriteAnswer.the-variants.{Bytes, Refused}
@@ -28,7 +28,7 @@ use Rattle.sheet.specs.declared.order.Seen.{Seen}
 use Rattle.sheet.specs.declared.order.Admitted.{Admitted}
 use Rattle.sheet.specs.declared.order.Admitted.the-variants.{Yes, No}
 use Rattle.columns.proofs.ColumnLaws.{length-column}
-use Rattle.sheet.proofs.Lines.{both, drop-twice, length-render, length-lent}
+use Rattle.sheet.proofs.Lines.{both, drop-twice, length-columns, length-render, length-lent}
 use Rattle.sheet.proofs.FormLaws.{Fielded, letterOf, fieldsOf, form-says, take-padded}
 use Rattle.sheet.proofs.Sheets.{parts-at, lent-shows, sheetHeld-is, Passes, refusal-passes}
 
@@ -150,10 +150,6 @@ put-more t at s u h =
 columns-append : (ms ns : List ℕ) → columns (ms ++ ns) ≡ columns ms ++ columns ns
 columns-append [] ns = refl
 columns-append (m ∷ ms) ns = ap (λ (r : List ℕ). column m ++ r) (columns-append ms ns) ∙ sym (append-assoc (column m) (columns ms) (columns ns))
-
-length-columns : (ns : List ℕ) → length (columns ns) ≡ 9 * length ns
-length-columns [] = refl
-length-columns (n ∷ ns) = omega (arith, length-append (column n) (columns ns), length-column n, length-columns ns)
 
 -- ---- a line's text
 
@@ -312,7 +308,7 @@ module _
     not-refused seen kept form e answer after admits k is =
         let f : form ≡ formOfLine l = e ∙ form-is in
         let n : form ≡ Unknown → ⊥ = λ u. false≢true (ap known (sym u ∙ f) ∙ formed-known l (a .formed)) in
-        let r = subst (λ (x : Admitted). AdmittedAs before l x after) is (admits .each before l n kept f (a .is)) in
+        let r = subst (λ (x : Admitted). AdmittedAs (keptAfter seen form (getD numbers 1 0)) before l x after) is (admits .each before l n kept f (a .is)) in
         let p = a .passed in
         let q = r .0 in
         let t = r .1 in
@@ -356,21 +352,22 @@ module _ (before : List Line) (numbers : List ℕ) (eight : length numbers ≡ 8
 
   pub taken :
       (seen : Seen) (widths : List ℕ) → Keeps before seen widths → (form : Form) → form ≡ formOf (getD numbers 0 0) (fields + 1) → (answer : Admitted) (after : List ℕ)
-      → Admits seen widths form numbers answer after → (next : Seen) → answer ≡ Yes next → GoesOn before fields numbers next after
+      → Admits seen widths form numbers answer after → (mark : ℕ) → answer ≡ Yes mark → (next : Seen) → next ≡ keptAfter seen form (getD numbers 1 0) mark
+      → GoesOn before fields numbers next after
   unfolding wellFormed
-  taken seen widths kept form e answer after admits next is =
+  taken seen widths kept form e answer after admits mark is next then =
       let f : form ≡ formOfLine (lineOf fields numbers) =
       e ∙ ap (formOf (getD numbers 0 0)) (add-one fields ∙ ap suc (sym used-long)) in
-      let n : form ≡ Unknown → ⊥ = λ u. yes-is-not-no next 2 (sym is ∙ admits .unknown u) in
-      let r = subst (λ (x : Admitted). AdmittedAs before (lineOf fields numbers) x after) is (admits .each before (lineOf fields numbers) n kept f line-lent) in
+      let n : form ≡ Unknown → ⊥ = λ u. yes-is-not-no mark 2 (sym is ∙ admits .unknown u) in
+      let r = subst (λ (x : Admitted). AdmittedAs (keptAfter seen form (getD numbers 1 0)) before (lineOf fields numbers) x after) is (admits .each before (lineOf fields numbers) n kept f line-lent) in
       record {
         line = record { is = line-lent; formed = both (ap known (sym f) ∙ known-form form n) used-range; passed = r .0 };
-        kept = r .1;
+        kept = subst (λ (s : Seen). Keeps (lineOf fields numbers ∷ before) s after) (sym then) (r .1);
         used = used-long;
       }
     where
-      yes-is-not-no : (s : Seen) (k : ℕ) → Yes s ≡ No k → ⊥
-      yes-is-not-no s k q = let z : _≡_ {A = ℕ} 0 1 = cc in omega arith
+      yes-is-not-no : (s k : ℕ) → Yes s ≡ No k → ⊥
+      yes-is-not-no s k q = false≢true cc
 
       known-form : (f : Form) → (f ≡ Unknown → ⊥) → known f ≡ true
       known-form Kind h = refl
@@ -683,12 +680,6 @@ widths-more before widths l table passed = go (eqb (l .letter) K) refl
               ∙ ap (λ (t : Bool). cond t (getD (l .numbers) 0 0) (widthOf before kind)) (sym (ap (λ (t : Bool). t && eqb (l .kind) kind) k));
         })
 
--- No width is declared.
-pub no-width : (n k : ℕ) → _≡_ {A = ℕ} (getD (replicate n 0) k 0) 0
-no-width zero k = refl
-no-width (suc n) zero = refl
-no-width (suc n) (suc k) = no-width n k
-
 -- What is known when n lines are put into the text.
 pub record Fills (numbers text₀ text widths : List ℕ) (at n : ℕ) : Type 0 where
   pub lines : List Line
@@ -842,12 +833,12 @@ module _ (numbers text₀ text widths : List ℕ) (at n : ℕ) (f : Fills number
 -- ---- write
 
 wrong-is : (line : ℕ) (o : Outcome (List Line)) → refused 8 line ≡ mapGood sizeOf o → o ≡ refused 8 line
-wrong-is line (good ls) e = absurd (let z : _≡_ {A = ℕ} 0 1 = cc in omega arith)
+wrong-is line (good ls) e = absurd (false≢true cc)
 wrong-is line (refused number at) e = cc
 
 size-is : (size : ℕ) (o : Outcome (List Line)) → good size ≡ mapGood sizeOf o → (ls : List Line) × (o ≡ good ls) × (size ≡ length (textOf ls))
 size-is size (good ls) e = (ls, refl, cc)
-size-is size (refused number at) e = absurd (let z : _≡_ {A = ℕ} 0 1 = cc in omega arith)
+size-is size (refused number at) e = absurd (false≢true cc)
 
 -- An answer meets the contract where it says what is written, and leaves that.
 meets :

@@ -6,13 +6,14 @@ use mathlib.Core.Option.{Option, none, some}
 use Prim.Native.Nat.{ℕ, zero, suc, _+_, _*_, _≤_, _<_}
 use lib.Dec.{eqb, leb, ltb}
 use lib.ListN.{length, getD, take, drop}
-use Rattle.patterns.specs.Outcome.{Outcome, good, refused, mapGood, held}
+use Rattle.patterns.specs.Outcome.{Outcome, good, refused, mapGood, counted, held}
 use Rattle.sheet.specs.Answer.{refusalSays}
-use Rattle.sheet.specs.Line.{K, B, R, Line, formOfLine, inRange, render, lent, textOf, lentOf}
+use Rattle.sheet.specs.Line.{K, B, H, R, Line, formOfLine, inRange, render, lent, textOf, lentOf}
 use Rattle.sheet.specs.Sheet.{inPlace, letterBefore, kindBefore, widthOf, topMark, marksFrom, markBefore, linesWith, headsBefore, refusal}
-use Rattle.sheet.specs.Read.{sheetIn}
+use Rattle.sheet.specs.Read.{sheetIn, readSays}
 use Rattle.sheet.specs.Write.{sheetHeld}
 use Rattle.sheet.specs.declared.Refusal.{Refusal}
+use Rattle.sheet.specs.declared.ReadAnswer.{ReadAnswer}
 use Rattle.sheet.specs.declared.Form.{Form}
 use Rattle.sheet.specs.declared.Form.the-variants.{Kind, Body, Head, Row, Unknown}
 use Rattle.sheet.specs.declared.order.Seen.{Seen}
@@ -58,17 +59,34 @@ FieldsFit (Head n) = n ≤ 6
 FieldsFit (Row n) = Unit {0}
 FieldsFit Unknown = Unit {0}
 
--- What is answered of a line after the lines before it.
-abbrev pub AdmittedAs : List Line → Line → Admitted → List ℕ → Type 0
-AdmittedAs before l (Yes seen) widths = (refusal before l ≡ 0) × Keeps (l ∷ before) seen widths
-AdmittedAs before l (No number) widths = (refusal before l ≡ number) × (3 ≤ number) × (number ≤ 6)
+-- There is room for a line of this form.
+abbrev pub HasRoom : Seen → Form → Type 0
+HasRoom seen Kind = Unit {0}
+HasRoom seen (Body n) = seen .rules < 256
+HasRoom seen (Head n) = seen .heads < 4
+HasRoom seen (Row n) = seen .rows < 1024
+HasRoom seen Unknown = Unit {0}
+
+-- What is kept after a line of this form and kind, where mark is the largest mark of its rule so far.
+abbrev pub keptAfter : Seen → Form → ℕ → ℕ → Seen
+keptAfter seen Kind kind mark = record { letter = K; kind = kind; mark = 0; rules = seen .rules; heads = 0; rows = seen .rows }
+keptAfter seen (Body n) kind mark = record { letter = B; kind = kind; mark = mark; rules = seen .rules + 1; heads = 0; rows = seen .rows }
+keptAfter seen (Head n) kind mark = record { letter = H; kind = kind; mark = mark; rules = seen .rules; heads = seen .heads + 1; rows = seen .rows }
+keptAfter seen (Row n) kind mark = record { letter = R; kind = kind; mark = 0; rules = seen .rules; heads = 0; rows = seen .rows + 1 }
+keptAfter seen Unknown kind mark = seen
+
+-- What is answered of a line after the lines before it, where `next` is kept then.
+abbrev pub AdmittedAs : (ℕ → Seen) → List Line → Line → Admitted → List ℕ → Type 0
+AdmittedAs next before l (Yes mark) widths = (refusal before l ≡ 0) × Keeps (l ∷ before) (next mark) widths
+AdmittedAs next before l (No number) widths = (refusal before l ≡ number) × (3 ≤ number) × (number ≤ 6)
 
 -- A line of the form, with these lent numbers, after any lines of which this is kept.
 pub record Admits (seen : Seen) (widths : List ℕ) (form : Form) (numbers : List ℕ) (answer : Admitted) (after : List ℕ) : Type 0 where
   pub size : length after ≡ 65
   pub unknown : form ≡ Unknown → answer ≡ No 2
+  pub room : (mark : ℕ) → answer ≡ Yes mark → HasRoom seen form
   pub each : (before : List Line) (l : Line) → (form ≡ Unknown → ⊥) → Keeps before seen widths → form ≡ formOfLine l → numbers ≡ lent l
-      → AdmittedAs before l answer after
+      → AdmittedAs (keptAfter seen form (getD numbers 1 0)) before l answer after
 
 -- The refusal of a B, H or R line for its place or its kind, where w is the width declared for the kind; 0 where it gets neither.
 abbrev pub placedOf : ℕ → ℕ → ℕ → ℕ → ℕ
@@ -86,12 +104,10 @@ abbrev pub measuredSays : Measured → Outcome ℕ
 measuredSays (Size n) = good n
 measuredSays (Wrong line) = refused 8 line
 
--- A text that is read, and lent lines with room for its lines.
-pub record LinesFit (text : List ℕ) (room n : ℕ) : Type 0 where
-  pub lines : List Line
-  pub read : sheetIn text ≡ good lines
-  pub count : length lines ≡ n
-  pub fit : 8 * n ≤ room
+-- What is answered for a text that is scanned; where it is a sheet, the numbers of its lines then stand in front.
+pub record Scanned (text : List ℕ) (answer : ReadAnswer) (numbers : List ℕ) : Type 0 where
+  pub says : readSays answer ≡ counted (sheetIn text)
+  pub lines : (ls : List Line) → sheetIn text ≡ good ls → take (8 * length ls) numbers ≡ lentOf ls
 
 -- Lent lines that are a sheet, and lent text with room for its text.
 pub record TextFits (numbers : List ℕ) (room : ℕ) : Type 0 where
@@ -102,10 +118,6 @@ pub record TextFits (numbers : List ℕ) (room : ℕ) : Type 0 where
 -- The refusal has this number and line.
 abbrev pub RefusalIs : Refusal → ℕ → ℕ → Type 0
 RefusalIs r number line = refusalSays {A = ℕ} r ≡ refused number line
-
--- What is filled in: the numbers of the lines that the text means.
-abbrev pub LinesFilled : List ℕ → List ℕ → List ℕ → Type 0
-LinesFilled text before after = after ≡ held (mapGood lentOf (sheetIn text)) before
 
 -- What is filled in: the text of the lines that the numbers hold.
 abbrev pub TextFilled : List ℕ → List ℕ → List ℕ → Type 0

@@ -12,6 +12,7 @@ ghost use Rattle.sheet.specs.Inner.{measuredSays, sizeOf, usedOf, ranges
 use crate::line::take_apart;
 use crate::order::Admitted;
 use crate::order::admit;
+use crate::order::kept_after;
 use crate::order::nothing_seen;
 use crate::order::width_of;
 
@@ -94,9 +95,9 @@ pub(crate) fn measure(lines: &[u32]) -> Measured
             return Measured::Wrong(n + 1);
         }
         let form = take_apart(numbers[0], fields + 1);
-        match admit(seen, &mut widths, form, numbers) {
-            Admitted::Yes(next) => {
-                seen = next;
+        match admit(seen, &mut widths, form, &numbers) {
+            Admitted::Yes(mark) => {
+                seen = kept_after(seen, form, numbers[1], mark);
             }
             Admitted::No(_) => {
                 return Measured::Wrong(n + 1);

@@ -7,7 +7,9 @@ mod text;
 pub use columns::column;
 pub use patterns::PatternAnswer;
 pub use patterns::digits;
+pub use patterns::digits_in;
 pub use patterns::pattern;
+pub use patterns::pattern_table;
 ghost use mathlib.Core.Path.{_≡_};
 ghost use Rattle.sheet.specs.Answer.{refusalNumber, refusalLine};
 ghost use Rattle.sheet.specs.Read.{ReadMeets};
@@ -71,17 +73,10 @@ pub fn read(text: &[u8], lines: &mut [u32]) -> ReadAnswer
     if 32768 < text.len() {
         return ReadAnswer::Refused(Refusal::TextTooLong);
     }
-    match text::check_text(text) {
-        ReadAnswer::Refused(refusal) => ReadAnswer::Refused(refusal),
-        ReadAnswer::Lines(n) => {
-            let room = lines.len() / 8;
-            if room < n {
-                return ReadAnswer::Refused(Refusal::LinesShort(room + 1));
-            }
-            text::fill_lines(text, lines, n);
-            ReadAnswer::Lines(n)
-        }
+    if 5120 < text.len() {
+        return text::read_long(text, lines);
     }
+    text::read_short(text, lines)
 }
 
 // Writes lent lines, eight numbers each, as text. A good call changes the bytes that it counts and nothing else; a refusal changes nothing.

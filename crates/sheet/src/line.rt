@@ -1,16 +1,11 @@
 // A line: its letter, its columns and its byte 10.
 ghost use mathlib.Core.Path.{_≡_};
+ghost use lib.ListN.{length, replicate};
 ghost use Rattle.sheet.specs.Line.{formOf, lineIn};
 ghost use Rattle.sheet.specs.Inner.{ParsedAs};
 use crate::Form;
 use columns::Number;
 use columns::number_at;
-
-// A line that was read: its form, and its eight lent numbers where it has one.
-pub(crate) struct Parsed {
-    pub form: Form,
-    pub numbers: [u32; 8],
-}
 
 pub(crate) fn wide(b: u8) -> u32
     ensures { λ r. ⌜ r ≡ b ⌝ }
@@ -43,36 +38,27 @@ pub(crate) fn take_apart(letter: u32, columns: usize) -> Form
     }
 }
 
-fn unknown() -> Parsed
-    ensures { λ r. ⌜ r .form ≡ Form.Unknown ⌝ }
-{
-    Parsed {
-        form: Form::Unknown,
-        numbers: [0; 8],
-    }
-}
-
-// Reads the line that the bytes are, with their byte 10.
-pub(crate) fn parse(line: &[u8]) -> Parsed
-    ensures { λ r. ⌜ ParsedAs (lineIn (now (line .entry))) (r .form) (r .numbers) ⌝ }
+// Reads the line that the bytes are, with their byte 10: its form, and its eight lent numbers, which are 0 before.
+pub(crate) fn parse(line: &[u8], numbers: &mut [u32; 8]) -> Form
+    requires { ⌜ now numbers ≡ replicate 8 0 ⌝ }
+    ensures { λ r. ⌜ ParsedAs (lineIn (now (line .entry))) r (now (numbers .exit)) × (length (now (numbers .exit)) ≡ 8) ⌝ }
 {
     let size = line.len();
     if size < 2 {
-        return unknown();
+        return Form::Unknown;
     }
     let columns = (size - 2) / 9;
     if size != 9 * columns + 2 {
-        return unknown();
+        return Form::Unknown;
     }
     if line[size - 1] != 10 {
-        return unknown();
+        return Form::Unknown;
     }
     let letter = wide(line[0]);
     let form = take_apart(letter, columns);
     if let Form::Unknown = form {
-        return unknown();
+        return Form::Unknown;
     }
-    let mut numbers = [0u32; 8];
     numbers[0] = letter;
     let mut c: usize = 0;
     while c < columns {
@@ -81,10 +67,10 @@ pub(crate) fn parse(line: &[u8]) -> Parsed
                 numbers[c + 1] = n;
             }
             Number::NotOne => {
-                return unknown();
+                return Form::Unknown;
             }
         }
         c += 1;
     }
-    Parsed { form, numbers }
+    form
 }

@@ -5,7 +5,7 @@ ghost use Prim.Native.Nat.{_≤_};
 ghost use lib.Dec.{eqb, ltb};
 ghost use lib.ListN.{length, getD, take, drop};
 ghost use Rattle.sheet.specs.Sheet.{inPlace};
-ghost use Rattle.sheet.specs.Inner.{NothingSeen, Admits, FieldsFit, marksTop, placedOf, declares};
+ghost use Rattle.sheet.specs.Inner.{NothingSeen, Admits, FieldsFit, HasRoom, keptAfter, marksTop, placedOf, declares};
 use crate::Form;
 use crate::line::wide;
 
@@ -19,9 +19,9 @@ pub(crate) struct Seen {
     pub rows: u32,
 }
 
-// The line is admitted, or refused with a number.
+// The line is admitted, with the largest mark of its rule so far and 0 outside rules, or it is refused with a number.
 pub(crate) enum Admitted {
-    Yes(Seen),
+    Yes(u32),
     No(u32),
 }
 
@@ -51,9 +51,9 @@ pub(crate) fn width_of(widths: &[u8; 65], kind: u32) -> u32
 }
 
 // The largest of a line's first `fields` marks, where they are right after the mark `m`; 0 where they are not.
-pub(crate) fn marks(numbers: [u32; 8], fields: usize, m: u32) -> u32
-    requires { ⌜ fields ≤ 6 ⌝ }
-    ensures { λ r. ⌜ r ≡ marksTop m (take fields (drop 2 numbers)) ⌝ }
+pub(crate) fn marks(numbers: &[u32; 8], fields: usize, m: u32) -> u32
+    requires { ⌜ (length (now numbers) ≡ 8) × (fields ≤ 6) ⌝ }
+    ensures { λ r. ⌜ r ≡ marksTop m (take fields (drop 2 (now (numbers .entry)))) ⌝ }
 {
     let mut top = m;
     let mut i: usize = 0;
@@ -145,9 +145,9 @@ fn placed(last: u32, widths: &[u8; 65], letter: u32, kind: u32, fields: usize) -
     0
 }
 
-fn admit_kind(seen: Seen, widths: &mut [u8; 65], numbers: [u32; 8]) -> Admitted
-    requires { ⌜ length (now widths) ≡ 65 ⌝ }
-    ensures { λ r. ⌜ Admits seen (now (widths .entry)) Form.Kind numbers r (now (widths .exit)) ⌝ }
+fn admit_kind(seen: Seen, widths: &mut [u8; 65], numbers: &[u32; 8]) -> Admitted
+    requires { ⌜ (length (now widths) ≡ 65) × (length (now numbers) ≡ 8) ⌝ }
+    ensures { λ r. ⌜ Admits seen (now (widths .entry)) Form.Kind (now (numbers .entry)) r (now (widths .exit)) ⌝ }
 {
     let kind = numbers[1];
     let width = numbers[2];
@@ -158,19 +158,12 @@ fn admit_kind(seen: Seen, widths: &mut [u8; 65], numbers: [u32; 8]) -> Admitted
         return Admitted::No(4);
     }
     widths[kind as usize] = width as u8;
-    Admitted::Yes(Seen {
-        letter: 75,
-        kind,
-        mark: 0,
-        rules: seen.rules,
-        heads: 0,
-        rows: seen.rows,
-    })
+    Admitted::Yes(0)
 }
 
-fn admit_body(seen: Seen, widths: &[u8; 65], numbers: [u32; 8], fields: usize) -> Admitted
-    requires { ⌜ (length (now widths) ≡ 65) × (fields ≤ 6) ⌝ }
-    ensures { λ r. ⌜ Admits seen (now (widths .entry)) (Form.Body fields) numbers r (now (widths .entry)) ⌝ }
+fn admit_body(seen: Seen, widths: &[u8; 65], numbers: &[u32; 8], fields: usize) -> Admitted
+    requires { ⌜ (length (now widths) ≡ 65) × (fields ≤ 6) × (length (now numbers) ≡ 8) ⌝ }
+    ensures { λ r. ⌜ Admits seen (now (widths .entry)) (Form.Body fields) (now (numbers .entry)) r (now (widths .entry)) ⌝ }
 {
     let kind = numbers[1];
     let wrong = placed(seen.letter, widths, 66, kind, fields);
@@ -184,19 +177,12 @@ fn admit_body(seen: Seen, widths: &[u8; 65], numbers: [u32; 8], fields: usize) -
     if seen.rules >= 256 {
         return Admitted::No(6);
     }
-    Admitted::Yes(Seen {
-        letter: 66,
-        kind,
-        mark,
-        rules: seen.rules + 1,
-        heads: 0,
-        rows: seen.rows,
-    })
+    Admitted::Yes(mark)
 }
 
-fn admit_head(seen: Seen, widths: &[u8; 65], numbers: [u32; 8], fields: usize) -> Admitted
-    requires { ⌜ (length (now widths) ≡ 65) × (fields ≤ 6) ⌝ }
-    ensures { λ r. ⌜ Admits seen (now (widths .entry)) (Form.Head fields) numbers r (now (widths .entry)) ⌝ }
+fn admit_head(seen: Seen, widths: &[u8; 65], numbers: &[u32; 8], fields: usize) -> Admitted
+    requires { ⌜ (length (now widths) ≡ 65) × (fields ≤ 6) × (length (now numbers) ≡ 8) ⌝ }
+    ensures { λ r. ⌜ Admits seen (now (widths .entry)) (Form.Head fields) (now (numbers .entry)) r (now (widths .entry)) ⌝ }
 {
     let kind = numbers[1];
     let wrong = placed(seen.letter, widths, 72, kind, fields);
@@ -210,19 +196,12 @@ fn admit_head(seen: Seen, widths: &[u8; 65], numbers: [u32; 8], fields: usize) -
     if seen.heads >= 4 {
         return Admitted::No(6);
     }
-    Admitted::Yes(Seen {
-        letter: 72,
-        kind,
-        mark,
-        rules: seen.rules,
-        heads: seen.heads + 1,
-        rows: seen.rows,
-    })
+    Admitted::Yes(mark)
 }
 
-fn admit_row(seen: Seen, widths: &[u8; 65], numbers: [u32; 8], fields: usize) -> Admitted
-    requires { ⌜ length (now widths) ≡ 65 ⌝ }
-    ensures { λ r. ⌜ Admits seen (now (widths .entry)) (Form.Row fields) numbers r (now (widths .entry)) ⌝ }
+fn admit_row(seen: Seen, widths: &[u8; 65], numbers: &[u32; 8], fields: usize) -> Admitted
+    requires { ⌜ (length (now widths) ≡ 65) × (length (now numbers) ≡ 8) ⌝ }
+    ensures { λ r. ⌜ Admits seen (now (widths .entry)) (Form.Row fields) (now (numbers .entry)) r (now (widths .entry)) ⌝ }
 {
     let kind = numbers[1];
     let wrong = placed(seen.letter, widths, 82, kind, fields);
@@ -232,20 +211,13 @@ fn admit_row(seen: Seen, widths: &[u8; 65], numbers: [u32; 8], fields: usize) ->
     if seen.rows >= 1024 {
         return Admitted::No(6);
     }
-    Admitted::Yes(Seen {
-        letter: 82,
-        kind,
-        mark: 0,
-        rules: seen.rules,
-        heads: 0,
-        rows: seen.rows + 1,
-    })
+    Admitted::Yes(0)
 }
 
 // Tests a line of this form against the lines before it.
-pub(crate) fn admit(seen: Seen, widths: &mut [u8; 65], form: Form, numbers: [u32; 8]) -> Admitted
-    requires { ⌜ (length (now widths) ≡ 65) × FieldsFit form ⌝ }
-    ensures { λ r. ⌜ Admits seen (now (widths .entry)) form numbers r (now (widths .exit)) ⌝ }
+pub(crate) fn admit(seen: Seen, widths: &mut [u8; 65], form: Form, numbers: &[u32; 8]) -> Admitted
+    requires { ⌜ (length (now widths) ≡ 65) × FieldsFit form × (length (now numbers) ≡ 8) ⌝ }
+    ensures { λ r. ⌜ Admits seen (now (widths .entry)) form (now (numbers .entry)) r (now (widths .exit)) ⌝ }
 {
     match form {
         Form::Kind => admit_kind(seen, widths, numbers),
@@ -253,5 +225,47 @@ pub(crate) fn admit(seen: Seen, widths: &mut [u8; 65], form: Form, numbers: [u32
         Form::Head(fields) => admit_head(seen, widths, numbers, fields),
         Form::Row(fields) => admit_row(seen, widths, numbers, fields),
         Form::Unknown => Admitted::No(2),
+    }
+}
+
+// What is kept after a line of this form and kind that is admitted, where `mark` is the largest mark of its rule so far.
+pub(crate) fn kept_after(seen: Seen, form: Form, kind: u32, mark: u32) -> Seen
+    requires { ⌜ HasRoom seen form ⌝ }
+    ensures { λ r. ⌜ r ≡ keptAfter seen form kind mark ⌝ }
+{
+    match form {
+        Form::Kind => Seen {
+            letter: 75,
+            kind,
+            mark: 0,
+            rules: seen.rules,
+            heads: 0,
+            rows: seen.rows,
+        },
+        Form::Body(_) => Seen {
+            letter: 66,
+            kind,
+            mark,
+            rules: seen.rules + 1,
+            heads: 0,
+            rows: seen.rows,
+        },
+        Form::Head(_) => Seen {
+            letter: 72,
+            kind,
+            mark,
+            rules: seen.rules,
+            heads: seen.heads + 1,
+            rows: seen.rows,
+        },
+        Form::Row(_) => Seen {
+            letter: 82,
+            kind,
+            mark: 0,
+            rules: seen.rules,
+            heads: 0,
+            rows: seen.rows + 1,
+        },
+        Form::Unknown => seen,
     }
 }

@@ -1,17 +1,18 @@
 -- Laws of records in which steps are shown; what is shown of the numbers of steps is these steps. Assumes nothing.
 use mathlib.Core.Path.{_≡_, refl, sym, _∙_, ap}
 use mathlib.Core.Bool.{Bool, true, false}
-use mathlib.Core.List.{List, [], _∷_, _++_, map}
+use mathlib.Core.List.{List, [], _∷_, _++_, map, map-append}
 use Prim.Native.Nat.{ℕ, zero, suc, _+_, _*_, _-_, _/_, _<_, _≤_}
 use native.Mathlib.Nat.{add-zero}
 use native.Mathlib.Numerals.{add-one}
 use native.Mathlib.Omega.{arith}
 use lib.Dec.{T, leb, leb→le}
-use lib.ListN.{length, getD, take, drop, set, length-append, length-drop}
+use lib.ListN.{length, getD, take, drop, set, length-append, length-drop, length-map}
 use lib.Seq.{take-all, getD-append-add, getD-drop, drop-cons, append-snoc, set-at, take-at, drop-at}
 use borrow.Author.Tests.{le-leb, lt-leb}
 use Rattle.chase.specs.Steps.{Step, stepNumbers}
 use Rattle.chase.specs.Judge.{Verdict, Right}
+use Rattle.chase.proofs.StepLaws.{length-numbers}
 use Rattle.steps.specs.declared.StepRecord.{StepRecord}
 use Rattle.steps.specs.Showing.{stepAt, stepsIn, recordOf, stepOf, recordAt, noRecord, orNone, shownAt, showing, allOrNone, countOf, Exactly}
 
@@ -20,16 +21,8 @@ pub length-stepsIn : (numbers : List ℕ) (n : ℕ) → length (stepsIn numbers 
 length-stepsIn numbers zero = refl
 length-stepsIn numbers (suc n) = length-append (stepsIn numbers n) (stepAt numbers n ∷ []) ∙ add-one (length (stepsIn numbers n)) ∙ ap suc (length-stepsIn numbers n)
 
-length-map : {A B : Type 0} (f : A → B) (l : List A) → length (map f l) ≡ length l
-length-map f [] = refl
-length-map f (x ∷ xs) = ap suc (length-map f xs)
-
-map-append : {A B : Type 0} (f : A → B) (l m : List A) → map f (l ++ m) ≡ map f l ++ map f m
-map-append f [] m = refl
-map-append f (x ∷ xs) m = ap (λ r. f x ∷ r) (map-append f xs m)
-
 length-shown : (numbers : List ℕ) (n : ℕ) → length (map recordOf (stepsIn numbers n)) ≡ n
-length-shown numbers n = length-map recordOf (stepsIn numbers n) ∙ length-stepsIn numbers n
+length-shown numbers n = length-map (stepsIn numbers n) recordOf ∙ length-stepsIn numbers n
 
 -- As many records as before.
 pub length-showing : (numbers : List ℕ) (before : List StepRecord) (n : ℕ) → n ≤ length before → length (showing numbers before n) ≡ length before
@@ -85,26 +78,19 @@ pub stepsIn-stepNumbers : (steps : List Step) (rest : List ℕ) → stepsIn (ste
 stepsIn-stepNumbers [] rest = refl
 stepsIn-stepNumbers (s ∷ steps) rest = stepsIn-suc s (stepNumbers steps ++ rest) (length steps) ∙ ap (λ l. s ∷ l) (stepsIn-stepNumbers steps rest)
 
-length-stepNumbers : (steps : List Step) → length (stepNumbers steps) ≡ length steps * 5
-length-stepNumbers [] = refl
-length-stepNumbers (s ∷ steps) = five (length (stepNumbers steps)) (length steps) (length-stepNumbers steps)
-  where
-    five : (k n : ℕ) → k ≡ n * 5 → suc (suc (suc (suc (suc k)))) ≡ suc n * 5
-    five k n e = omega (arith, e)
-
 -- Numbers that begin with those of some steps: where the records are enough, showing as many gives exactly these steps.
 pub show-gives-the-steps : (steps : List Step) (rest numbers : List ℕ) (before : List StepRecord) → numbers ≡ stepNumbers steps ++ rest → length steps ≤ length before → Exactly steps numbers before
 show-gives-the-steps steps rest numbers before are within = record {
   count = countOf-all (length before) (length numbers) (length steps) within enough;
-  filled = ap (λ l. map stepOf (take (length steps) l)) shows ∙ ap (map stepOf) (take-at (map recordOf steps) (drop (length steps) before) (length steps) (length-map recordOf steps)) ∙ back steps;
-  others = ap (drop (length steps)) shows ∙ drop-at (map recordOf steps) (drop (length steps) before) (length steps) (length-map recordOf steps);
+  filled = ap (λ l. map stepOf (take (length steps) l)) shows ∙ ap (map stepOf) (take-at (map recordOf steps) (drop (length steps) before) (length steps) (length-map steps recordOf)) ∙ back steps;
+  others = ap (drop (length steps)) shows ∙ drop-at (map recordOf steps) (drop (length steps) before) (length steps) (length-map steps recordOf);
 }
   where
     shows : showing numbers before (length steps) ≡ map recordOf steps ++ drop (length steps) before
     shows = ap (λ l. map recordOf l ++ drop (length steps) before) (ap (λ l. stepsIn l (length steps)) are ∙ stepsIn-stepNumbers steps rest)
 
     enough : length steps * 5 ≤ length numbers
-    enough = omega (arith, ap length are, length-append (stepNumbers steps) rest, length-stepNumbers steps)
+    enough = omega (arith, ap length are, length-append (stepNumbers steps) rest, length-numbers steps)
 
     back : (l : List Step) → map stepOf (map recordOf l) ≡ l
     back [] = refl

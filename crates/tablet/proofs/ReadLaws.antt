@@ -1,7 +1,7 @@
 -- What read answers for lines held as numbers is what it answers for lines held as bytes. Assumes nothing.
 use mathlib.Core.Path.{_≡_, refl, sym, subst, ap, _∙_}
 use mathlib.Core.List.{List, _++_, append-assoc}
-use Prim.Native.Nat.{ℕ, _*_, _/_, min}
+use Prim.Native.Nat.{ℕ, _*_, _/_, _≤_, min}
 use native.Mathlib.Omega.{arith}
 use lib.ListN.{length, take, drop}
 use lib.Seq.{take-at}
@@ -16,23 +16,24 @@ use Rattle.tablet.specs.Bytes.{allBytes}
 use Rattle.tablet.specs.Reply.{Replies, roomIn, ReadsBytes}
 use Rattle.tablet.specs.declared.Reply.{Reply}
 use Rattle.tablet.proofs.ByteLaws.{length-numbersFrom, length-allBytes}
-use Rattle.tablet.proofs.LineCounts.{room-enough}
+use Rattle.tablet.proofs.LineCounts.{linesIn, room-enough}
 
--- As many lines as so many bytes have room for, but no more than a text can have.
-room-same : (text lines before : List ℕ) → length before ≡ 8 * min (length lines / 4 / 8) 1638 → readOf text (length before / 8) ≡ readOf text (roomIn lines)
-room-same text lines before e =
-    let k : length before / 8 ≡ min (length lines / 4 / 8) 1638 = omega arith in
-    ap (readOf text) k ∙ room-enough text (length lines / 4 / 8) ∙ ap (λ n. readOf text (n / 8)) (sym (length-numbersFrom 4 (length lines / 4) lines))
+-- As many lines as so many bytes have room for, but no more than there are numbers for, which is enough.
+room-same : (text lines before : List ℕ) (most : ℕ) → linesIn text ≤ most → length before ≡ 8 * min (length lines / 4 / 8) most
+    → readOf text (length before / 8) ≡ readOf text (roomIn lines)
+room-same text lines before most h e =
+    let k : length before / 8 ≡ min (length lines / 4 / 8) most = omega arith in
+    ap (readOf text) k ∙ room-enough text (length lines / 4 / 8) most h ∙ ap (λ n. readOf text (n / 8)) (sym (length-numbersFrom 4 (length lines / 4) lines))
 
 abbrev asBytes : Outcome (List Line) → Outcome (List ℕ)
 asBytes o = mapGood (λ ls. allBytes 4 (lentOf ls)) o
 
-module _ (text lines before after : List ℕ) (room : length before ≡ 8 * min (length lines / 4 / 8) 1638) (r : Reply) where
+module _ (text lines before after : List ℕ) (most : ℕ) (enough : linesIn text ≤ most) (room : length before ≡ 8 * min (length lines / 4 / 8) most) (r : Reply) where
   -- Lines that were read are put into the bytes, and the rest of the bytes is as it was.
   pub lines-read : (n : ℕ) → ReadMeets text before (Lines n) after → Replies (good n) r
       → (rest : List ℕ) → ReadsBytes text lines r (allBytes 4 (take (8 * n) (after ++ rest)) ++ drop (4 * (8 * n)) lines)
   lines-read n m says rest =
-      let same = room-same text lines before room in
+      let same = room-same text lines before most enough room in
       let g = go (readOf text (roomIn lines)) (rw same at (m .says)) (rw same at (m .lines)) in
       record { replies = g .0; lines = g .1 }
     where
@@ -50,7 +51,7 @@ module _ (text lines before after : List ℕ) (room : length before ≡ 8 * min 
   -- A refused text leaves the bytes as they were.
   pub text-refused : (refusal : Refusal) → ReadMeets text before (Refused refusal) after → Replies (refusalSays refusal) r → ReadsBytes text lines r lines
   text-refused refusal m says =
-      let g = go (readOf text (roomIn lines)) (rw (room-same text lines before room) at (m .says)) in
+      let g = go (readOf text (roomIn lines)) (rw (room-same text lines before most enough room) at (m .says)) in
       record { replies = g .0; lines = g .1 }
     where
       go : (o : Outcome (List Line)) → refusalSays refusal ≡ counted o → Replies (counted o) r × (lines ≡ held (asBytes o) lines)

@@ -6,8 +6,9 @@ use native.Mathlib.Omega.{arith}
 use lib.ListN.{length, getD, take, drop, length-append, length-drop, take-append-drop}
 use lib.Seq.{take-at, drop-drop, getD-drop}
 use Rattle.sheet.specs.Write.{sheetHeld}
-use Rattle.chase.specs.Steps.{Step, stepNumbers}
+use Rattle.chase.specs.Steps.{stepNumbers}
 use Rattle.chase.specs.Judge.{Verdict, judged, refuses, Right, Refuses, short, wrong, many, shapeLimit}
+use Rattle.chase.proofs.StepLaws.{length-numbers}
 use Rattle.tablet.specs.Bytes.{numbersFrom, numbersOf, allBytes}
 use Rattle.tablet.specs.Reply.{JudgeReplies, JudgesBytes}
 use Rattle.tablet.specs.declared.JudgeReply.{JudgeReply}
@@ -68,10 +69,6 @@ front new before h b =
 
 -- ---- from what judging answers for the first 2,369 lines, with steps of its own, to what is answered for all and the lent steps
 
-length-steps : (ss : List Step) → length (stepNumbers ss) ≡ 5 * length ss
-length-steps [] = refl
-length-steps (s ∷ ss) = omega (arith, length-steps ss)
-
 module _ {first : List ℕ} (lines before : List ℕ) (e : first ≡ take 18952 (numbersOf 4 lines)) (b : Bytes before) where
   same-sheet : sheetHeld (numbersOf 4 lines) ≡ sheetHeld first
   same-sheet = sheet-truncated (numbersOf 4 lines) ∙ ap sheetHeld (sym e)
@@ -85,7 +82,7 @@ module _ {first : List ℕ} (lines before : List ℕ) (e : first ≡ take 18952 
         → JudgeReplies (judged v) r → JudgesBytes lines before r after
     judges {own} {written} {after} v r right is says =
         let new : List ℕ = stepNumbers (right .steps) in
-        let size : length new ≡ 5 * length (right .steps) = length-steps (right .steps) in
+        let size : length new ≡ 5 * length (right .steps) = length-numbers (right .steps) in
         let count : 5 * (v .trail + v .loop) ≡ length new = omega (arith, right .count, size) in
         let wrote : take (length new) written ≡ new = ap (take (length new)) (right .held) ∙ take-at new (drop (5 * length (right .steps)) own) (length new) refl in
         record {

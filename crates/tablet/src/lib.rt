@@ -111,20 +111,47 @@ fn decode_lines(lines: &[u8], numbers: &mut [u32]) -> usize
     count
 }
 
+// Reads a text, with room for the numbers of as many lines as it can have.
+fn read_lines(text: &[u8], numbers: &mut [u32], lines: &mut [u8]) -> Reply
+    requires { ⌜ 8 * (min (length (now text)) 32768 / 20) ≤ length (now numbers) ⌝ }
+    ensures { λ r. ⌜ ReadsBytes (now (text .entry)) (now (lines .entry)) r (now (lines .exit)) ⌝ }
+{
+    let room = 8 * least(lines.len() / 4 / 8, numbers.len() / 8);
+    match sheet::read(text, &mut numbers[..room]) {
+        ReadAnswer::Lines(count) => {
+            bytes::encode_u32(numbers, lines, 8 * count);
+            counts(count)
+        }
+        ReadAnswer::Refused(refusal) => refuses(refusal),
+    }
+}
+
+// Reads a text of up to 5,120 bytes, which has up to 256 lines.
+fn read_few(text: &[u8], lines: &mut [u8]) -> Reply
+    requires { ⌜ length (now text) ≤ 5120 ⌝ }
+    ensures { λ r. ⌜ ReadsBytes (now (text .entry)) (now (lines .entry)) r (now (lines .exit)) ⌝ }
+{
+    let mut numbers = room_for_few_lines();
+    read_lines(text, &mut numbers, lines)
+}
+
+// Reads any text.
+fn read_many(text: &[u8], lines: &mut [u8]) -> Reply
+    ensures { λ r. ⌜ ReadsBytes (now (text .entry)) (now (lines .entry)) r (now (lines .exit)) ⌝ }
+{
+    let mut numbers = room_for_text();
+    read_lines(text, &mut numbers, lines)
+}
+
 // Reads a text into lent lines, 32 bytes each.
 #[no_mangle]
 pub extern "C" fn followup_read(text: &[u8], lines: &mut [u8]) -> Reply
     ensures { λ r. ⌜ ReadsBytes (now (text .entry)) (now (lines .entry)) r (now (lines .exit)) ⌝ }
 {
-    let mut numbers = room_for_text();
-    let room = 8 * least(lines.len() / 4 / 8, 1638);
-    match sheet::read(text, &mut numbers[..room]) {
-        ReadAnswer::Lines(count) => {
-            bytes::encode_u32(&numbers, lines, 8 * count);
-            counts(count)
-        }
-        ReadAnswer::Refused(refusal) => refuses(refusal),
+    if text.len() > 5120 {
+        return read_many(text, lines);
     }
+    read_few(text, lines)
 }
 
 // Writes lines, with room for their numbers.

@@ -1,7 +1,9 @@
 -- The laws of a text's lines: how a search along the text finds a line's end, and that the part from `at` to that end is the line. Assumes nothing.
-use mathlib.Core.Path.{_≡_, refl}
+use mathlib.Core.Path.{_≡_, refl, sym, _∙_}
+use mathlib.Core.Logic.{⊎-elim, by-cases}
 use Prim.Native.Nat.{ℕ, zero, suc, _+_, _-_, _<_, _≤_}
-use native.Mathlib.Nat.{add-zero}
+use native.Mathlib.Nat.{add-zero, eq-or-lt-of-le}
+use native.Mathlib.Decide.{decLt}
 use native.Mathlib.Numerals.{add-one}
 use native.Mathlib.Omega.{arith}
 use mathlib.Core.Bool.{Bool, true, false}
@@ -10,7 +12,7 @@ use lib.Dec.{eqb}
 use lib.ListN.{length, getD, take, drop, length-drop, drop-of-length-le}
 use lib.Seq.{drop-cons}
 use borrow.Author.Tests.{eq-eqb, ne-eqb}
-use Rattle.walker.specs.Walk.{after, lineLength, lineEnd, lineAt, partStart}
+use Rattle.walker.specs.Walk.{after, lineLength, lineEnd, lineAt, Clear, partStart}
 
 -- The end of the line at `at` as seen from i, where the line at i has k bytes.
 abbrev pub reach : ℕ → ℕ → ℕ → ℕ
@@ -48,6 +50,37 @@ none-stays s at none = (omega arith, rw none)
 
 pub reach-past : (s : List ℕ) (at i : ℕ) → length s ≤ i → reach at i (lineLength (drop i s)) ≡ at
 reach-past s at i l = rw (none-past-end s i l)
+
+reach-pass : (s : List ℕ) (at i : ℕ) → (getD s i 0 ≡ 10 → ⊥) → reach at i (lineLength (drop i s)) ≡ reach at (suc i) (lineLength (drop (suc i) s))
+reach-pass s at i ne =
+    by-cases (decLt i (length s)) (λ l. rw add-one at (reach-on s at i l ne)) (λ l. reach-past s at i (omega arith) ∙ sym (reach-past s at (suc i) (omega arith)))
+
+-- Where no byte is 10, all are passed.
+pub reach-over : (s : List ℕ) (at i e : ℕ) → Clear s i e → reach at i (lineLength (drop i s)) ≡ reach at e (lineLength (drop e s))
+reach-over s at i zero clear = let start : i ≡ 0 = omega (arith, clear .ahead) in rw start
+reach-over s at i (suc e) clear =
+    ⊎-elim
+    (λ same. rw same)
+    (λ less.
+    reach-over s at i e (record { ahead = omega arith; never = λ j low high. clear .never j low (omega arith) })
+    ∙ reach-pass s at e (clear .never e (omega arith) (omega arith)))
+    (eq-or-lt-of-le (clear .ahead))
+
+pub clear-start : (s : List ℕ) (i e : ℕ) → i ≡ e → Clear s i e
+clear-start s i e here = record { ahead = omega arith; never = λ j low high is10. omega arith }
+
+-- One byte more that is not 10.
+pub clear-more : (s : List ℕ) (i k : ℕ) → Clear s i (i + k) → (getD s (i + k) 0 ≡ 10 → ⊥) → Clear s i (i + (k + 1))
+clear-more s i k clear ne = record {
+  ahead = omega arith;
+  never = λ j low high is10. let near : j ≤ i + k = omega arith in ⊎-elim (λ here. ne (rw here at is10)) (λ less. clear .never j low less is10) (eq-or-lt-of-le near);
+}
+
+pub clear-join : (s : List ℕ) (i m e : ℕ) → Clear s i m → Clear s m e → Clear s i e
+clear-join s i m e front rest = record {
+  ahead = omega (arith, front .ahead, rest .ahead);
+  never = λ j low high is10. by-cases (decLt j m) (λ l. front .never j low l is10) (λ l. rest .never j (omega arith) high is10);
+}
 
 after-le : (t : Bool) (k n : ℕ) → k ≤ n → after t k ≤ suc n
 after-le true k n l = omega arith

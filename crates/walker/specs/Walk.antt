@@ -1,9 +1,9 @@
 -- The lines of a text, each with its byte 10. Assumes nothing.
 use mathlib.Core.Path.{_≡_}
-use Prim.Native.Nat.{ℕ, zero, suc, _+_}
+use Prim.Native.Nat.{ℕ, zero, suc, _+_, _≤_, _<_}
 use mathlib.Core.Bool.{Bool, true, false, cond}
 use mathlib.Core.List.{List, [], _∷_}
-use lib.ListN.{take, drop}
+use lib.ListN.{getD, take, drop}
 use lib.Dec.{eqb}
 use denote.Ref.{RefT, ptr, now}
 
@@ -30,6 +30,11 @@ lineLength (b ∷ s) = after (eqb b 10) (lineLength s)
 -- Where the line at `at` ends, after its byte 10; `at` itself where there is none.
 abbrev pub lineEnd : List ℕ → ℕ → ℕ
 lineEnd s at = at + lineLength (drop at s)
+
+-- From i up to e, which is not before i, no byte is 10.
+pub record Clear (s : List ℕ) (i e : ℕ) : Type 0 where
+  pub ahead : i ≤ e
+  pub never : (j : ℕ) → i ≤ j → j < e → getD s j 0 ≡ 10 → ⊥
 
 -- The line at `at`, with its byte 10; empty where there is none.
 abbrev pub lineAt : List ℕ → ℕ → List ℕ

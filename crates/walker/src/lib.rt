@@ -1,7 +1,10 @@
 // A line walker: it keeps the lent text and the offset of the next line.
 // `line_end` and `line_at` are its core, over the text and a number; the others are thin over the struct.
 ghost use mathlib.Core.Path.{_≡_};
-ghost use Rattle.walker.specs.Walk.{lineEnd, lineAt, HandsOut};
+ghost use mathlib.Core.Bool.{true};
+ghost use Prim.Native.Nat.{_+_, _≤_};
+ghost use lib.ListN.{length};
+ghost use Rattle.walker.specs.Walk.{lineEnd, lineAt, Clear, HandsOut};
 
 // The text, and where the next line begins.
 pub struct Walker<'a> {
@@ -9,11 +12,45 @@ pub struct Walker<'a> {
     pub at: usize,
 }
 
+// Whether none of the 16 bytes at `i` is byte 10. The loop always makes all its turns, so it compiles to one wide comparison.
+fn clear16(text: &[u8], i: usize) -> bool
+    requires { ⌜ i + 16 ≤ length (now text) ⌝ }
+    ensures { λ r. ⌜ (r ≡ true → Clear (now (text .entry)) i (i + 16)) ⌝ }
+{
+    let mut clear = true;
+    let mut k: usize = 0;
+    while k < 16 {
+        if text[i + k] == 10 {
+            clear = false;
+        }
+        k += 1;
+    }
+    clear
+}
+
+// A place at or after `at` with no byte 10 between them: the first of the 16 bytes that hold one, or where fewer than 16 are left.
+fn skip(text: &[u8], at: usize) -> usize
+    ensures { λ r. ⌜ Clear (now (text .entry)) at r ⌝ }
+{
+    if text.len() < 16 {
+        return at;
+    }
+    let last = text.len() - 16;
+    let mut i = at;
+    while i <= last {
+        if !clear16(text, i) {
+            return i;
+        }
+        i += 16;
+    }
+    i
+}
+
 // Where the line at `at` ends, after its byte 10; `at` itself where there is none.
 fn line_end(text: &[u8], at: usize) -> usize
     ensures { λ r. ⌜ r ≡ lineEnd (now (text .entry)) at ⌝ }
 {
-    let mut i = at;
+    let mut i = skip(text, at);
     while i < text.len() {
         if text[i] == 10 {
             return i + 1;

@@ -30,7 +30,7 @@ spread-requires c κs =
     let grids = c .before .before .before in
     let start = grids .before .before .before .before .before .before in
     let known = start .pre .0 .known in
-    (known .table-fits, found-closed known, grids .before .before .no-numbers .ensures, grids .before .no-numbers2 .ensures .grid, grids .no-numbers3 .ensures .grid, start .pre .2)
+    (known .table-fits, found-closed known, grids .before .before .no-numbers .ensures, grids .before .no-numbers2 .ensures .grid, grids .no-numbers3 .ensures .grid, start .pre .2, start .pre .3)
 
 sub-endless-answer : tie.Need-sub-endless-answer
 sub-endless-answer c = search needs

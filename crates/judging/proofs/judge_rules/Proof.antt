@@ -13,23 +13,24 @@ no-index-requires c κs = search needs
 
 search-requires : tie.Need-search-requires
 search-requires c κs =
-    let index = c .before .before .before .before .before .before in
+    let index = c .before .before .before .before .before .before .before .before .before in
     let start = index .before .before .before .before in
-    (start .pre .0, start .pre .2, start .pre .3, refl, index .no-index .ensures, refl, refl, refl, index .before .by-kind .ensures)
+    (start .pre .0, start .pre .2, start .pre .3, refl, index .no-index .ensures, refl, refl, refl, index .before .by-kind .ensures, refl, refl, refl)
 
 returns : tie.Need-returns
 returns c =
-    let start = c .before .before .before .before .before .before .before .before .before .before .before .before in
-    shapes-over (start .pre .0) (c .before .search .ensures) _ (start .pre .1) (c .if1 .taken)
+    let start = c .before .before .before .before .before .before .before .before .before .before .before .before .before .before .before in
+    shapes-over (start .pre .0) (c .before .search .ensures .0) _ (start .pre .1) (c .if1 .taken)
 
 judge-found-requires : tie.Need-judge-found-requires
 judge-found-requires c κs =
-    let other = c .before .before .before .before .before .before .before .before .before in
-    let kinds = other .before .before .before .before .before .before .before .before .before in
+    let other = c .before .before .before .before .before .before .before .before .before .before .before .before in
+    let kinds = other .before .before .before .before .before .before .before .before .before .before .before .before in
     let start = kinds .before .before .before in (
-      record { numbers = _; known = all-known (start .pre .0) (other .before .search .ensures) (start .pre .2) (start .pre .3) (other .if1 .left) },
+      record { numbers = _; known = all-known (start .pre .0) (other .before .search .ensures .0) (start .pre .2) (start .pre .3) (other .if1 .left) },
       start .pre .1,
       kinds .by-kind .ensures,
+      other .before .search .ensures .1 (other .if1 .left),
     )
 
 same-length : tie.Need-same-length
@@ -38,9 +39,9 @@ same-length c = search needs
 returns-2 : tie.Need-returns-2
 returns-2 c =
     let call = c .before .before in
-    let other = call .before .before .before .before .before .before .before .before .before .before in
-    let start = other .before .before .before .before .before .before .before .before .before .before .before .before in
-    call .judge-found .ensures .each _ (all-known (start .pre .0) (other .before .search .ensures) (start .pre .2) (start .pre .3) (other .if1 .left))
+    let other = call .before .before .before .before .before .before .before .before .before .before .before .before .before in
+    let start = other .before .before .before .before .before .before .before .before .before .before .before .before .before .before .before in
+    call .judge-found .ensures .each _ (all-known (start .pre .0) (other .before .search .ensures .0) (start .pre .2) (start .pre .3) (other .if1 .left))
 
 pub judge-rules-spec : {M : Type 1} → statement M
 judge-rules-spec =

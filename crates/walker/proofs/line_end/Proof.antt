@@ -1,10 +1,10 @@
--- `line_end` meets its contract. The loop's invariant: the end as seen from i is the line's end. The measure is what is left of the text. Assumes nothing.
+-- `line_end` meets its contract. `skip` passes no byte 10. The loop's invariant: the end as seen from i is the line's end. The measure is what is left of the text. Assumes nothing.
 use Prim.Native.Nat.{_-_}
 use mathlib.Core.Path.{_≡_, sym, _∙_}
 use borrow.Author.Needs.{needs}
 use lib.ListN.{length, drop}
 use Rattle.walker.specs.Walk.{lineLength, lineEnd}
-use Rattle.walker.proofs.Walking.{reach, reach-start, reach-on, reach-found, reach-past}
+use Rattle.walker.proofs.Walking.{reach, reach-start, reach-on, reach-found, reach-past, reach-over}
 use Rattle.walker.proofs.line_end.Statement.{statement}
 use Rattle.walker.proofs.line_end.Tie as tie
 
@@ -14,8 +14,11 @@ Inv-loop text at i₀ i = lineEnd text at ≡ reach at i (lineLength (drop i tex
 abbrev μ-loop : tie.MeasureT-loop
 μ-loop text at i₀ i = length text - i
 
+skip-requires : tie.Need-skip-requires Inv-loop μ-loop
+skip-requires c κs = search needs
+
 loop-holds : tie.Need-loop-holds Inv-loop μ-loop
-loop-holds c = reach-start (c .args .at) _
+loop-holds c = reach-start (c .before .before .args .at) _ ∙ reach-over _ _ _ _ (c .skip .ensures)
 
 shared-slice-read-if1 : tie.Need-shared-slice-read-if1 Inv-loop μ-loop
 shared-slice-read-if1 c = search needs
@@ -44,6 +47,7 @@ line-end-spec =
     (tie.spec
     Inv-loop
     μ-loop
+    skip-requires
     loop-holds
     shared-slice-read-if1
     add-result

@@ -72,36 +72,20 @@ rule-byte-requires-3 c κs =
     let k = s .pre .2 .marks (c .before .before .loop .j) (omega arith) in
     (s .pre .0, s .pre .1, omega arith)
 
-mul-v : tie.Need-mul-v Inv-loop μ-loop
-mul-v c = let w = c .before .before .before .before .rule-byte .ensures .0 in let z = c .before .before .before .before .before .pre .3 .small in omega arith
-
-add-v : tie.Need-add-v Inv-loop μ-loop
-add-v c = let w = c .before .before .before .before .rule-byte .ensures .0 in let z = c .before .before .before .before .before .pre .3 .small in omega arith
-
-add-v-2 : tie.Need-add-v-2 Inv-loop μ-loop
-add-v-2 c = let w = c .before .before .before .before .rule-byte .ensures .0 in let z = c .before .before .before .before .before .pre .3 .small in omega arith
-
 add-follow-fresh : tie.Need-add-follow-fresh Inv-loop μ-loop
-add-follow-fresh c = omega arith
+add-follow-fresh c = search needs
+
+add-follow-fresh-2 : tie.Need-add-follow-fresh-2 Inv-loop μ-loop
+add-follow-fresh-2 c = omega arith
 
 follow-fresh-requires : tie.Need-follow-fresh-requires Inv-loop μ-loop
 follow-fresh-requires c κs =
     let s = c .before .before .before .before .before .before .before .before .before .before in
     let w = c .before .before .before .before .before .before .before .before .before .rule-byte .ensures .0 in
-    (s .pre .0, s .pre .1, c .before .before .before .before .before .before .before .before .loop .inv .1 .live, s .pre .4, omega arith)
-
-mul-follow : tie.Need-mul-follow Inv-loop μ-loop
-mul-follow c = let z = c .before .before .before .before .before .before .pre .3 .small in omega arith
+    (s .pre .0, s .pre .1, c .before .before .before .before .before .before .before .before .loop .inv .1 .live, omega arith, s .pre .4, s .pre .5)
 
 add-follow : tie.Need-add-follow Inv-loop μ-loop
-add-follow c =
-    let s = c .before .before .before .before .before .before in
-    let w = c .before .before .before .before .before .rule-byte .ensures .0 in
-    let b = rowBytes (s .args .table .now) (s .args .r) in
-    let e = place-read b (s .args .h) (c .before .before .before .before .loop .j) (c .before .before .rule-byte2 .ensures .0) (c .before .rule-byte3 .ensures .0) in
-    let q = s .pre .2 .places (c .before .before .before .before .loop .j) (omega arith) in
-    let z = s .pre .3 .small in
-    omega arith
+add-follow c = search needs
 
 follow-requires : tie.Need-follow-requires Inv-loop μ-loop
 follow-requires c κs =
@@ -110,7 +94,7 @@ follow-requires c κs =
     let b = rowBytes (s .args .table .now) (s .args .r) in
     let e = place-read b (s .args .h) (c .before .before .before .before .before .before .before .before .loop .j) (c .before .before .before .before .before .before .rule-byte2 .ensures .0) (c .before .before .before .before .before .rule-byte3 .ensures .0) in
     let q = s .pre .2 .places (c .before .before .before .before .before .before .before .before .loop .j) (omega arith) in
-    (c .before .before .before .before .before .before .before .before .loop .inv .1 .live, omega arith, omega arith)
+    (c .before .before .before .before .before .before .before .before .loop .inv .1 .live, omega arith, omega arith, s .pre .4, s .pre .5)
 
 add-j : tie.Need-add-j Inv-loop μ-loop
 add-j c = search needs
@@ -159,12 +143,9 @@ follow-head-spec =
     rule-byte-requires-2
     add-rule-byte-4
     rule-byte-requires-3
-    mul-v
-    add-v
-    add-v-2
     add-follow-fresh
+    add-follow-fresh-2
     follow-fresh-requires
-    mul-follow
     add-follow
     follow-requires
     add-j

@@ -10,11 +10,11 @@ use Rattle.judging.proofs.spread.sweep.Statement.{statement}
 use Rattle.judging.proofs.spread.sweep.Tie as tie
 
 abbrev Inv-loop : tie.InvT-loop
-Inv-loop table rules kinds shapes index count generations₀ from₀ links₀ waiting₀ n last₀ s₀ generations from links waiting last s =
+Inv-loop table rules kinds shapes index firings targets starts count generations₀ from₀ links₀ waiting₀ n last₀ s₀ generations from links waiting last s =
     (s ≤ count) × Swept (7 * count) (EachE table rules shapes index count) s generations₀ from₀ links₀ generations from links waiting last
 
 abbrev μ-loop : tie.MeasureT-loop
-μ-loop table rules kinds shapes index count generations₀ from₀ links₀ waiting₀ n last₀ s₀ generations from links waiting last s = count - s
+μ-loop table rules kinds shapes index firings targets starts count generations₀ from₀ links₀ waiting₀ n last₀ s₀ generations from links waiting last s = count - s
 
 mul-n : tie.Need-mul-n Inv-loop μ-loop
 mul-n c =
@@ -64,6 +64,10 @@ follow-shape-requires c κs =
       unmarked (c .before .before .before .before .before .before .before .before .loop .s) (c .before .before .before .before .before .before .before .before .loop .inv .1 .live),
       omega arith,
       s .pre .4,
+      s .pre .5 .size-firings,
+      s .pre .5 .size-targets,
+      s .pre .5 .size-starts,
+      s .pre .5 .each (c .before .before .before .before .before .before .before .before .loop .s) t,
     )
 
 add-s : tie.Need-add-s Inv-loop μ-loop

@@ -15,8 +15,8 @@ use Rattle.sheet.specs.Line.{Line}
 use Rattle.sheet.specs.Write.{sheetHeld}
 use Rattle.sheet.specs.Inner.{Widths, FieldsFit, sizeOf}
 use Rattle.sheet.proofs.FormLaws.{fields-fit}
-use Rattle.sheet.proofs.OrderLaws.{keeps-none}
-use Rattle.sheet.proofs.Writing.{Measures, LineAt, not-too-wide, ranges-hold, not-refused, taken, measure-begun, line-wrong, line-taken, rule-without-head, measured, incomplete, no-width, size-small}
+use Rattle.sheet.proofs.OrderLaws.{no-width, keeps-none}
+use Rattle.sheet.proofs.Writing.{Measures, LineAt, not-too-wide, ranges-hold, not-refused, taken, measure-begun, line-wrong, line-taken, rule-without-head, measured, incomplete, size-small}
 use Rattle.sheet.proofs.lent.measure.Statement.{statement}
 use Rattle.sheet.proofs.lent.measure.Tie as tie
 
@@ -120,23 +120,31 @@ take-apart-requires c κs = search needs
 
 admit-requires : tie.Need-admit-requires Inv-loop μ-loop
 admit-requires c κs =
-    let u = c .before .before .before .before .before in (
+    let u = c .before .before .before .before .before .before in (
       table u .size,
-      subst FieldsFit (sym (c .before .take-apart .ensures)) (fields-fit (getD (numbers u) 0 0) (u .used .result + 1)),
+      subst FieldsFit (sym (c .before .before .take-apart .ensures)) (fields-fit (getD (numbers u) 0 0) (u .used .result + 1)),
+      good-length (eInt w32) 8 (numbers u) _ (u .before .before .numbers-at .ok),
     )
 
-enum-known-next : tie.Need-enum-known-next Inv-loop μ-loop
-enum-known-next c = search needs
+enum-known-mark : tie.Need-enum-known-mark Inv-loop μ-loop
+enum-known-mark c = search needs
+
+array-read-kept-after : tie.Need-array-read-kept-after Inv-loop μ-loop
+array-read-kept-after c = search needs
+
+kept-after-requires : tie.Need-kept-after-requires Inv-loop μ-loop
+kept-after-requires c κs =
+    let at-mark = c .before in at-mark .before .before .admit .ensures .room (at-mark .mark .given .0 .0) (at-mark .mark .given .1)
 
 enum-told : tie.Need-enum-told Inv-loop μ-loop
 enum-told c = search needs
 
-add-t25 : tie.Need-add-t25 Inv-loop μ-loop
-add-t25 c = search needs
+add-t29 : tie.Need-add-t29 Inv-loop μ-loop
+add-t29 c = search needs
 
 returns-4 : tie.Need-returns-4 Inv-loop μ-loop
 returns-4 c =
-    let t = c .before .before .before .before in
+    let t = c .before .before .before .before .before in
     let u = t .before .before .before .before in
     line-is-wrong u
     (λ l a.
@@ -152,7 +160,7 @@ add-size c = search needs
 
 add-size-2 : tie.Need-add-size-2 Inv-loop μ-loop
 add-size-2 c =
-    let t = c .before .before .before .before .before in
+    let t = c .before .before .before .before .before .before .before in
     let l = at-loop (t .before .before .before .before) in
     omega (
       arith,
@@ -168,19 +176,21 @@ loop-less c = search needs
 
 loop-again : tie.Need-loop-again Inv-loop μ-loop
 loop-again c =
-    let d = c .before .before .before in
-    let t = d .before .before in
+    let mark = c .before .before .mark in
+    let d = c .before .before .before .before in
+    let t = d .before .before .before in
     let u = t .before .before .before .before in
     let l = at-loop u in
     let lines = now (l .before .before .before .args .lines) in
     line-taken lines (l .loop .seen) (l .loop .widths) (l .loop .size) (l .loop .n) (l .loop .inv) (u .before .before .before .before .loop-test .taken) (numbers u)
-    (u .before .before .numbers-at .ensures) (u .used .result) (t .before .before .before .if2 .left) (omega arith) (c .before .next .given .0 .0) (d .admit .last .1 .0)
+    (u .before .before .numbers-at .ensures) (u .used .result) (t .before .before .before .if2 .left) (omega arith) (c .kept-after .result) (d .admit .last .1 .0)
     (taken (before u) (numbers u) (good-length (eInt w32) 8 (numbers u) _ (u .before .before .numbers-at .ok)) (u .used .result) (t .before .before .before .if2 .left)
     (sym (t .before .before .in-range .ensures) ∙ not-false (t .before .before .in-range .result) (t .before .if3 .left)) (l .loop .seen) (widths u) (l .loop .inv .kept)
-    (t .take-apart .result) (t .take-apart .ensures) (d .admit .result) (d .admit .last .1 .0) (d .admit .ensures) (c .before .next .given .0 .0) (c .before .next .given .1))
+    (t .take-apart .result) (t .take-apart .ensures) (d .admit .result) (d .admit .last .1 .0) (d .admit .ensures) (mark .given .0 .0) (mark .given .1)
+    (c .kept-after .result) (c .kept-after .ensures))
 
-add-t27 : tie.Need-add-t27 Inv-loop μ-loop
-add-t27 c = search needs
+add-t31 : tie.Need-add-t31 Inv-loop μ-loop
+add-t31 c = search needs
 
 returns-5 : tie.Need-returns-5 Inv-loop μ-loop
 returns-5 c =
@@ -219,9 +229,11 @@ measure-spec =
     add-take-apart
     take-apart-requires
     admit-requires
-    enum-known-next
+    enum-known-mark
+    array-read-kept-after
+    kept-after-requires
     enum-told
-    add-t25
+    add-t29
     returns-4
     mul-size
     add-size
@@ -229,6 +241,6 @@ measure-spec =
     add-n
     loop-less
     loop-again
-    add-t27
+    add-t31
     returns-5
     returns-6)

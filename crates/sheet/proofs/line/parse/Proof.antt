@@ -2,6 +2,7 @@
 use mathlib.Core.Path.{_≡_, refl, sym, ap, _∙_}
 use mathlib.Core.List.{[], _∷_}
 use Prim.Native.Nat.{_-_, _≤_}
+use lib.ListN.{length}
 use native.Mathlib.Omega.{arith}
 use borrow.Author.Needs.{needs}
 use mathlib.Core.Bool.{true}
@@ -12,7 +13,7 @@ use Rattle.columns.specs.Column.{numberSays}
 use Rattle.sheet.specs.declared.Form.{Form}
 use Rattle.sheet.specs.declared.Form.the-variants.{Kind, Body, Head, Row, Unknown}
 use Rattle.sheet.proofs.Form.{the-type}
-use Rattle.sheet.proofs.Forms.{Whole, Filled, whole-columns, none-filled, one-more-filled, size-wrong, end-wrong, form-wrong, column-wrong, parsed-unknown, parsed-whole}
+use Rattle.sheet.proofs.Forms.{Whole, Filled, whole-columns, none-filled, filled-size, one-more-filled, size-wrong, end-wrong, form-wrong, column-wrong, parsed-unknown, parsed-whole}
 use Rattle.sheet.proofs.line.parse.Statement.{statement}
 use Rattle.sheet.proofs.line.parse.Tie as tie
 
@@ -24,16 +25,14 @@ known-of-tag (Row n) k = refl
 known-of-tag Unknown k = absurd (miss (0 ∷ 1 ∷ 2 ∷ 3 ∷ []) 4 tt k)
 
 abbrev Inv-loop : tie.InvT-loop
-Inv-loop line size columns letter form numbers₀ c₀ numbers c = Whole line columns letter form × (c ≤ columns) × Filled line letter numbers c
+Inv-loop line numbers₀ size columns letter form c₀ numbers c = Whole line columns letter form × (c ≤ columns) × Filled line letter numbers c
 
 abbrev μ-loop : tie.MeasureT-loop
-μ-loop line size columns letter form numbers₀ c₀ numbers c = columns - c
-
-unknown-requires : tie.Need-unknown-requires Inv-loop μ-loop
-unknown-requires c κs = search needs
+μ-loop line numbers₀ size columns letter form c₀ numbers c = columns - c
 
 returns : tie.Need-returns Inv-loop μ-loop
-returns c = let line = c .before .before .before .args .line .now in parsed-unknown line _ _ (size-wrong line (λ e. omega arith)) (c .unknown .ensures)
+returns c = let s = c .before .before in let line = s .args .line .now in
+    (parsed-unknown line _ _ (size-wrong line (λ e. omega arith)) refl, ap length (s .pre))
 
 mul-if2 : tie.Need-mul-if2 Inv-loop μ-loop
 mul-if2 c = search needs
@@ -41,11 +40,9 @@ mul-if2 c = search needs
 add-if2 : tie.Need-add-if2 Inv-loop μ-loop
 add-if2 c = search needs
 
-unknown-requires-2 : tie.Need-unknown-requires-2 Inv-loop μ-loop
-unknown-requires-2 c κs = search needs
-
 returns-2 : tie.Need-returns-2 Inv-loop μ-loop
-returns-2 c = let line = c .before .before .before .before .args .line .now in parsed-unknown line _ _ (size-wrong line (c .before .if2 .taken)) (c .unknown2 .ensures)
+returns-2 c = let s = c .before .before .before in let line = s .args .line .now in
+    (parsed-unknown line _ _ (size-wrong line (c .if2 .taken)) refl, ap length (s .pre))
 
 sub-if3 : tie.Need-sub-if3 Inv-loop μ-loop
 sub-if3 c = search needs
@@ -53,11 +50,9 @@ sub-if3 c = search needs
 shared-slice-read-if3 : tie.Need-shared-slice-read-if3 Inv-loop μ-loop
 shared-slice-read-if3 c = search needs
 
-unknown-requires-3 : tie.Need-unknown-requires-3 Inv-loop μ-loop
-unknown-requires-3 c κs = search needs
-
 returns-3 : tie.Need-returns-3 Inv-loop μ-loop
-returns-3 c = let line = c .before .before .before .before .before .before .args .line .now in parsed-unknown line _ _ (end-wrong line (c .before .if3 .taken)) (c .unknown3 .ensures)
+returns-3 c = let s = c .before .before .before .before .before in let line = s .args .line .now in
+    (parsed-unknown line _ _ (end-wrong line (c .if3 .taken)) refl, ap length (s .pre))
 
 shared-slice-read-wide : tie.Need-shared-slice-read-wide Inv-loop μ-loop
 shared-slice-read-wide c = search needs
@@ -71,17 +66,15 @@ take-apart-requires c κs = search needs
 enum-told : tie.Need-enum-told Inv-loop μ-loop
 enum-told c = search needs
 
-unknown-requires-4 : tie.Need-unknown-requires-4 Inv-loop μ-loop
-unknown-requires-4 c κs = search needs
-
 returns-4 : tie.Need-returns-4 Inv-loop μ-loop
 returns-4 c =
-    let line = c .before .before .before .before .before .before .before .before .before .before .before .args .line .now in
-    let apart = c .before .before .before in
-    parsed-unknown line _ _ (form-wrong line (cc (apart .take-apart .ensures, apart .before .wide .ensures, c .before .enum-told .given .1))) (c .unknown4 .ensures)
+    let s = c .before .before .before .before .before .before .before .before .before .before in
+    let line = s .args .line .now in
+    let apart = c .before .before in
+    (parsed-unknown line _ _ (form-wrong line (cc (apart .take-apart .ensures, apart .before .wide .ensures, c .enum-told .given .1))) refl, ap length (s .pre))
 
-array-write-numbers : tie.Need-array-write-numbers Inv-loop μ-loop
-array-write-numbers c = search needs
+element-write-numbers : tie.Need-element-write-numbers Inv-loop μ-loop
+element-write-numbers c = search needs
 
 loop-holds : tie.Need-loop-holds Inv-loop μ-loop
 loop-holds c =
@@ -95,7 +88,7 @@ loop-holds c =
         known-is = known-of-tag (apart .take-apart .result) (c .match .keys2);
       },
       search needs,
-      none-filled _ _,
+      none-filled _ _ _ (c .before .before .before .before .before .before .before .before .before .pre),
     )
 
 mul-number-at : tie.Need-mul-number-at Inv-loop μ-loop
@@ -116,23 +109,21 @@ add-numbers c = search needs
 mul-numbers : tie.Need-mul-numbers Inv-loop μ-loop
 mul-numbers c = search needs
 
-array-write-numbers-2 : tie.Need-array-write-numbers-2 Inv-loop μ-loop
-array-write-numbers-2 c = let turn = c .before .before .before .before in omega (arith, whole-columns _ _ _ _ (turn .before .loop .inv .0))
+element-write-numbers-2 : tie.Need-element-write-numbers-2 Inv-loop μ-loop
+element-write-numbers-2 c = let turn = c .before .before .before .before in omega (arith, whole-columns _ _ _ _ (turn .before .loop .inv .0))
 
 enum-told-2 : tie.Need-enum-told-2 Inv-loop μ-loop
 enum-told-2 c = search needs
 
-unknown-requires-5 : tie.Need-unknown-requires-5 Inv-loop μ-loop
-unknown-requires-5 c κs = search needs
-
 returns-5 : tie.Need-returns-5 Inv-loop μ-loop
 returns-5 c =
-    let read = c .before .before .before in
+    let read = c .before .before in
     let turn = read .before in
-    let loop = turn .before .loop in
-    parsed-unknown _ _ _
-    (column-wrong _ _ _ _ _ (loop .inv .0) (turn .loop-test .taken) (sym (read .number-at .ensures) ∙ ap numberSays (c .before .enum-told2 .given .1)))
-    (c .unknown5 .ensures)
+    let loop = turn .before .loop in (
+      parsed-unknown _ _ _
+          (column-wrong _ _ _ _ _ (loop .inv .0) (turn .loop-test .taken) (sym (read .number-at .ensures) ∙ ap numberSays (c .enum-told2 .given .1))) refl,
+      filled-size (loop .inv .2),
+    )
 
 add-c : tie.Need-add-c Inv-loop μ-loop
 add-c c = search needs
@@ -152,7 +143,7 @@ loop-again c =
     )
 
 returns-6 : tie.Need-returns-6 Inv-loop μ-loop
-returns-6 c = let inv = c .before .loop .inv in parsed-whole _ _ _ _ _ _ (inv .0) (c .loop-test .left) (inv .1) (inv .2)
+returns-6 c = let inv = c .before .loop .inv in (parsed-whole _ _ _ _ _ _ (inv .0) (c .loop-test .left) (inv .1) (inv .2), filled-size (inv .2))
 
 pub parse-spec : {M : Type 1} → statement M
 parse-spec =
@@ -160,23 +151,19 @@ parse-spec =
     (tie.spec
     Inv-loop
     μ-loop
-    unknown-requires
     returns
     mul-if2
     add-if2
-    unknown-requires-2
     returns-2
     sub-if3
     shared-slice-read-if3
-    unknown-requires-3
     returns-3
     shared-slice-read-wide
     wide-requires
     take-apart-requires
     enum-told
-    unknown-requires-4
     returns-4
-    array-write-numbers
+    element-write-numbers
     loop-holds
     mul-number-at
     add-number-at
@@ -184,9 +171,8 @@ parse-spec =
     enum-known-n
     add-numbers
     mul-numbers
-    array-write-numbers-2
+    element-write-numbers-2
     enum-told-2
-    unknown-requires-5
     returns-5
     add-c
     loop-less

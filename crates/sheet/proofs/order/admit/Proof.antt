@@ -1,5 +1,6 @@
 -- `sheet::order::admit` meets its contract. Assumes nothing.
 use mathlib.Core.Path.{refl, subst}
+use mathlib.Core.Bool.{false≢true}
 use borrow.Author.Needs.{needs}
 use Rattle.sheet.specs.Inner.{FieldsFit}
 use Rattle.sheet.proofs.order.admit.Statement.{statement}
@@ -16,14 +17,14 @@ enum-known-form c = search needs
 
 admit-body-requires : tie.Need-admit-body-requires
 admit-body-requires c κs = let s = c .before .before .before .before in
-    (s .pre .0, subst FieldsFit (c .before .before .form .given .1) (s .pre .1))
+    (s .pre .0, subst FieldsFit (c .before .before .form .given .1) (s .pre .1), s .pre .2)
 
 enum-known-form-2 : tie.Need-enum-known-form-2
 enum-known-form-2 c = search needs
 
 admit-head-requires : tie.Need-admit-head-requires
 admit-head-requires c κs = let s = c .before .before .before .before in
-    (s .pre .0, subst FieldsFit (c .before .before .form2 .given .1) (s .pre .1))
+    (s .pre .0, subst FieldsFit (c .before .before .form2 .given .1) (s .pre .1), s .pre .2)
 
 enum-known-form-3 : tie.Need-enum-known-form-3
 enum-known-form-3 c = search needs
@@ -48,7 +49,7 @@ returns-4 c = rw (c .before .before .before .form3 .given .1) (c .admit-row .ens
 
 returns-5 : tie.Need-returns-5
 returns-5 c =
-    record { size = c .before .before .pre .0; unknown = λ e. refl; each = λ before l d keeps e n. absurd (d (c .enum-told2 .given .1)) }
+    record { size = c .before .before .pre .0; unknown = λ e. refl; room = λ mark e. absurd (false≢true cc); each = λ before l d keeps e n. absurd (d (c .enum-told2 .given .1)) }
 
 pub admit-spec : {M : Type 1} → statement M
 admit-spec =

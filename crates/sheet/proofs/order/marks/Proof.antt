@@ -8,10 +8,10 @@ use Rattle.sheet.proofs.order.marks.Statement.{statement}
 use Rattle.sheet.proofs.order.marks.Tie as tie
 
 abbrev Inv-loop : tie.InvT-loop
-Inv-loop fields m numbers top₀ i₀ top i = Passed numbers fields m i top
+Inv-loop numbers fields m top₀ i₀ top i = Passed numbers fields m i top
 
 abbrev μ-loop : tie.MeasureT-loop
-μ-loop fields m numbers top₀ i₀ top i = fields - i
+μ-loop numbers fields m top₀ i₀ top i = fields - i
 
 loop-holds : tie.Need-loop-holds Inv-loop μ-loop
 loop-holds c = passed-none _ _ _
@@ -22,27 +22,27 @@ add-n c = search needs
 mul-n : tie.Need-mul-n Inv-loop μ-loop
 mul-n c = search needs
 
-array-read-n : tie.Need-array-read-n Inv-loop μ-loop
-array-read-n c = search needs
+element-copy-out-n : tie.Need-element-copy-out-n Inv-loop μ-loop
+element-copy-out-n c = search needs
 
 returns : tie.Need-returns Inv-loop μ-loop
-returns c = let a = c .before .before in
+returns c = let a = c .before .before .before in
     let s = a .before in
-    passed-low (s .good .0 .1 .0 .1) (s .pre) (c .before .loop-test .taken) (a .loop .inv) (c .if1 .taken)
+    passed-low (s .pre .0) (s .pre .1) (c .before .before .loop-test .taken) (a .loop .inv) (c .if1 .taken)
 
 returns-2 : tie.Need-returns-2 Inv-loop μ-loop
-returns-2 c = let a = c .before .before .before in
+returns-2 c = let a = c .before .before .before .before in
     let s = a .before in
-    passed-high (s .good .0 .1 .0 .1) (s .pre) (c .before .before .loop-test .taken) (a .loop .inv) (c .before .if1 .left) (c .if2 .taken)
+    passed-high (s .pre .0) (s .pre .1) (c .before .before .before .loop-test .taken) (a .loop .inv) (c .before .if1 .left) (c .if2 .taken)
 
 add-if4 : tie.Need-add-if4 Inv-loop μ-loop
 add-if4 c = search needs
 
 returns-3 : tie.Need-returns-3 Inv-loop μ-loop
-returns-3 c = let a = c .before .before .before .before .before in
+returns-3 c = let a = c .before .before .before .before .before .before in
     let s = a .before in
     let t = c .before .before in
-    passed-far (s .good .0 .1 .0 .1) (s .pre) (t .before .before .loop-test .taken) (a .loop .inv) (t .before .if1 .left) (t .if2 .left) (let h = c .if4 .taken in omega arith)
+    passed-far (s .pre .0) (s .pre .1) (t .before .before .before .loop-test .taken) (a .loop .inv) (t .before .if1 .left) (t .if2 .left) (let h = c .if4 .taken in omega arith)
 
 add-i : tie.Need-add-i Inv-loop μ-loop
 add-i c = search needs
@@ -51,9 +51,9 @@ loop-less : tie.Need-loop-less Inv-loop μ-loop
 loop-less c = search needs
 
 loop-again : tie.Need-loop-again Inv-loop μ-loop
-loop-again c = let a = c .before .before .before .before in
+loop-again c = let a = c .before .before .before .before .before in
     let s = a .before in
-    passed-mark (s .good .0 .1 .0 .1) (s .pre) (c .before .before .before .loop-test .taken) (a .loop .inv) _ (c .before .before .if1 .left) (c .before .if2 .left)
+    passed-mark (s .pre .0) (s .pre .1) (c .before .before .before .before .loop-test .taken) (a .loop .inv) _ (c .before .before .if1 .left) (c .before .if2 .left)
     (⊎-elim (λ w. omega arith) (λ w. omega arith) (c .if3 .came))
     (⊎-elim (λ w. omega arith) (λ w. omega arith) (c .if3 .came))
 
@@ -69,7 +69,7 @@ marks-spec =
     loop-holds
     add-n
     mul-n
-    array-read-n
+    element-copy-out-n
     returns
     returns-2
     add-if4

@@ -18,13 +18,13 @@ abbrev μ-loop : tie.MeasureT-loop
 μ-loop lines₀ at numbers i₀ lines i = 8 - i
 
 loop-holds : tie.Need-loop-holds Inv-loop μ-loop
-loop-holds c = (search needs, paste-zero (now (c .args .lines)) (c .args .at) (c .args .t3), refl)
+loop-holds c = (search needs, paste-zero (now (c .args .lines)) (c .args .at) (now (c .args .numbers)), refl)
 
 mul-lines : tie.Need-mul-lines Inv-loop μ-loop
 mul-lines c = search needs
 
-array-read-lines : tie.Need-array-read-lines Inv-loop μ-loop
-array-read-lines c = search needs
+element-copy-out-lines : tie.Need-element-copy-out-lines Inv-loop μ-loop
+element-copy-out-lines c = search needs
 
 add-lines : tie.Need-add-lines Inv-loop μ-loop
 add-lines c = search needs
@@ -43,13 +43,13 @@ loop-less c = search needs
 
 loop-again : tie.Need-loop-again Inv-loop μ-loop
 loop-again c =
-    let at-start = c .before .before in
-    let i : ℕ = c .before .loop .i in
+    let at-start = c .before .before .before in
+    let i : ℕ = c .before .before .loop .i in
     let room : at-start .args .at + i < length (now (at-start .args .lines)) = omega arith in
-    let held : i < length (at-start .args .t3) = search needs in (
+    let held : i < length (now (at-start .args .numbers)) = search needs in (
       search needs,
-      rw (c .before .loop .inv .1, add-one) (paste-suc (now (at-start .args .lines)) (at-start .args .at) (at-start .args .t3) i 0 room held),
-      simp length-set (c .before .loop .inv .2),
+      rw (c .before .before .loop .inv .1, add-one) (paste-suc (now (at-start .args .lines)) (at-start .args .at) (now (at-start .args .numbers)) i 0 room held),
+      simp length-set (c .before .before .loop .inv .2),
     )
 
 same-length : tie.Need-same-length Inv-loop μ-loop
@@ -66,7 +66,7 @@ put-numbers-spec =
     μ-loop
     loop-holds
     mul-lines
-    array-read-lines
+    element-copy-out-lines
     add-lines
     mul-lines-2
     slice-write-lines

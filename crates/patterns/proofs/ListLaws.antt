@@ -1,0 +1,35 @@
+-- Laws of membership, and of numbers in so many places. Assumes nothing.
+use mathlib.Core.Path.{_≡_, refl, ap}
+use mathlib.Core.Logic.{inl, inr}
+use mathlib.Core.List.{List, [], _∷_, _++_, map}
+use Prim.Native.Nat.{ℕ, zero, suc, _<_}
+use native.Mathlib.Omega.{arith}
+use lib.ListN.{length, getD}
+use Rattle.patterns.specs.Lists.{In}
+use Rattle.patterns.specs.Outcome.{padded}
+
+-- Membership in joined and mapped lists.
+pub in-left : {A : Type 0} (x : A) (xs ys : List A) → In x xs → In x (xs ++ ys)
+in-left x [] ys i = absurd i
+in-left x (z ∷ xs) ys (inl p) = inl p
+in-left x (z ∷ xs) ys (inr i) = inr (in-left x xs ys i)
+
+pub in-right : {A : Type 0} (x : A) (xs ys : List A) → In x ys → In x (xs ++ ys)
+in-right x [] ys i = i
+in-right x (z ∷ xs) ys i = inr (in-right x xs ys i)
+
+pub in-map : {A B : Type 0} (f : A → B) (x : A) (l : List A) → In x l → In (f x) (map f l)
+in-map f x [] i = absurd i
+in-map f x (y ∷ l) (inl p) = inl (ap f p)
+in-map f x (y ∷ l) (inr i) = inr (in-map f x l i)
+
+-- What stands at a place of a list is in it.
+pub in-getD : {A : Type 0} (l : List A) (k : ℕ) (e : A) → k < length l → In (getD l k e) l
+in-getD [] k e h = absurd (omega arith)
+in-getD (x ∷ l) zero e h = inl refl
+in-getD (x ∷ l) (suc k) e h = inr (in-getD l k e (omega arith))
+
+pub length-padded : (w : ℕ) (ns : List ℕ) → length (padded w ns) ≡ w
+length-padded zero ns = refl
+length-padded (suc w) [] = ap suc (length-padded w [])
+length-padded (suc w) (n ∷ ns) = ap suc (length-padded w ns)
