@@ -203,6 +203,16 @@ fn print_table(effort: &Effort) {
     }
 }
 
+/// The order that asks for the most sweeps; too long a text to read.
+fn print_worst_order(effort: &Effort) {
+    let sheet = [Ready::new(&series::against_the_order())];
+    let t = judge_times(effort, &sheet);
+    println!(
+        "\n256 rules, 512 shapes, against the order of discovery: judge {:.1}, peer {:.1}",
+        t.library, t.peer
+    );
+}
+
 /// Times for growing sheets.
 struct Panel {
     title: &'static str,
@@ -382,6 +392,7 @@ fn main() -> ExitCode {
         least: if quick { 500.0 } else { 3_000.0 },
     };
     print_table(&effort);
+    print_worst_order(&effort);
     let file = words
         .iter()
         .position(|word| word == "--svg")

@@ -89,3 +89,27 @@ pub fn carried_patterns(random: &mut Random, each: usize) -> Sheet {
     }
     sheet
 }
+
+/// 256 rules with four H lines each and 512 shapes, whose fresh numbers go through
+/// 64 kinds against the order in which the shapes are found. It settles.
+pub fn against_the_order() -> Sheet {
+    let kind = |kind| Kind { kind, width: 6 };
+    let mut sheet = Sheet::new((1..=64).map(kind).collect());
+    for at in 0..256 {
+        let from = sheet.kinds[at % 64];
+        let head = match at % 64 {
+            0 => entry(from, &[1, 2, 3, 4, 5, 6]),
+            k => entry(sheet.kinds[k - 1], &[1, 2, 3, 4, 6, 7]),
+        };
+        let mut rule = vec![entry(from, &[1, 2, 3, 4, 5, 6])];
+        rule.extend((0..4).map(|_| head.clone()));
+        sheet.rules.push(rule);
+    }
+    for &kind in &sheet.kinds {
+        for pattern in patterns(4).into_iter().take(8) {
+            let values = [pattern.as_slice(), &[8, 9]].concat();
+            sheet.rows.push(entry(kind, &values));
+        }
+    }
+    sheet
+}
