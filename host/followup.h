@@ -1,25 +1,33 @@
-/* Follow-up sheets: reading, writing and judging them, from C99 or C++ on x86-64. Link with libtablet.a; it uses the C library's
- * memcpy and memset and nothing else.
+/* Follow-up sheets: reading, writing and judging them, from C99 or C++. Link with libfollowup.a, which is built for x86-64 Linux (ELF,
+ * System V ABI, 64-bit pointers) and uses the C library's memcpy and memset and nothing else.
  *
- * A sheet is a text; followup_read turns it into lines, eight numbers each, and followup_judge says of those lines whether
- * the follow-ups come to rest. The caller lends all memory.
+ * A sheet is a text; followup_judge_text says of it whether the follow-ups come to rest. In two steps: followup_read turns the text
+ * into lines, eight numbers each, and followup_judge judges those lines. The caller lends all memory.
  *
  * Numbers. Lent lines and fields are u32, lent steps are u16, each as its bytes, lowest first. A last part too short for
  * a number (up to 3 bytes of lines or fields, 1 byte of steps) counts as none and is never changed.
  *
- * Pointers. Each must be non-null, also where its length is 0; any non-null pointer will do then, as nothing is touched.
- * Otherwise the whole length must be readable (const) or readable and writable (lent). Alignment 1 suffices. No length may pass
- * PTRDIFF_MAX. Lent memory must not overlap the input, and during a call no other thread may write to the input or
- * touch the lent memory.
+ * Pointers. A pointer may be NULL where its length is 0. Otherwise the whole length must be readable (const) or readable and
+ * writable (lent). Alignment 1 suffices. No length may pass PTRDIFF_MAX. Lent memory must not overlap the input, and during
+ * a call no other thread may write to the input or touch the lent memory.
  *
- * Answers. `refusal` is 0 where a call is good. On a refusal every other figure but `line` is 0 and the lent memory holds
- * what it held. A good call changes only what it counts in its answer.
+ * Answers. `refusal` is 0 where a call is good; followup_refusal_text has a sentence for each. On a refusal every other figure but
+ * `line` is 0 and the lent memory holds what it held. A good call changes only what it counts in its answer.
  *
  * Threads. A call uses no heap, no global, no lock and no system call; any number of threads may call at once. A thread
  * that calls needs FOLLOWUP_STACK bytes of stack.
+ *
+ * Versions. FOLLOWUP_VERSION is the number of this interface, followup_version() the archive's. The functions below are inline and
+ * call symbols whose names end in that number (followup_read_v1), so that a program does not link with an archive of
+ * another interface. A caller in another language declares these symbols; their pointers must be non-null, also where
+ * the length is 0.
  */
 #ifndef FOLLOWUP_H
 #define FOLLOWUP_H
+
+#if !defined(__x86_64__) || defined(__ILP32__) || !defined(__linux__)
+#error "libfollowup.a is built for x86-64 Linux with 64-bit pointers"
+#endif
 
 #include <stddef.h>
 #include <stdint.h>
@@ -28,8 +36,13 @@
 extern "C" {
 #endif
 
-/* Stack that suffices for a thread that makes any of the calls. Judging uses most, about 200,000 bytes (test.c measures it); the
- * rest is for what the thread itself needs, its thread-local data included. */
+/* The interface's number; a change of a layout, a size or a call gives another. */
+#define FOLLOWUP_VERSION 1
+
+/* Stack that suffices for a thread that makes any of the calls. test.c makes them on a stack of that size, filled with one byte
+ * value, and looks how much of it has changed at the end: 244,634 bytes with judging, 221,242 with judging a text, 109,904 with
+ * reading, 80,800 with writing, 4,464 with none (gcc -O2, glibc). Some C libraries give a thread less where nothing is asked
+ * for (musl: 128 KiB); there set the size of its stack (pthread_attr_setstacksize). */
 #define FOLLOWUP_STACK ((size_t)256 * 1024)
 
 /* Limits of a text and of a sheet. */
@@ -55,7 +68,7 @@ extern "C" {
 #define FOLLOWUP_SHEET_LINES_BYTES ((size_t)FOLLOWUP_SHEET_LINES * FOLLOWUP_LINE_BYTES) /* 75,776 */
 #define FOLLOWUP_STEPS_BYTES ((size_t)FOLLOWUP_STEPS * FOLLOWUP_STEP_BYTES)             /* 40,960: enough for judging */
 
-/* Refusals. Lines count from 1; the line is 0 where none is named. */
+/* Refusals. Lines count from 1; the line is 0 where none is named. What is said of read holds of judge_text too, but for 7. */
 enum {
     FOLLOWUP_GOOD = 0,         /* no refusal */
     FOLLOWUP_TEXT_LONG = 1,    /* read, write: the text is, or would be, over 32,768 bytes; line 0 */
@@ -68,8 +81,8 @@ enum {
     FOLLOWUP_LINE_WRONG = 8,   /* write, judge: the lent lines are no sheet, with the first wrong line */
     FOLLOWUP_TEXT_SHORT = 9,   /* write: the lent text is too short; line 0 */
     FOLLOWUP_FIELD_COUNT = 10, /* pattern: no field, or more than six; line 0 */
-    FOLLOWUP_SHAPES_OVER = 11, /* judge: the reachable records show more than 512 shapes; line 0 */
-    FOLLOWUP_STEPS_SHORT = 12  /* judge: fewer than 4,096 steps are lent; line 0 */
+    FOLLOWUP_SHAPES_OVER = 11, /* judge, judge_text: the reachable records show more than 512 shapes; line 0 */
+    FOLLOWUP_STEPS_SHORT = 12  /* judge, judge_text: fewer than 4,096 steps are lent; line 0 */
 };
 
 /* Verdicts. */
@@ -96,24 +109,8 @@ struct followup_judge_reply {
     size_t share;     /* 100 * fired / rules to the nearest whole, half upward; 0 without rules */
     size_t row;       /* the row that the trail starts from, counted from 1 among R lines; 0 where it settles with deepest 0 */
     size_t trail;     /* how many steps the trail has; they come first */
-    size_t turns;     /* how many steps the loop has; they follow the trail's; 0 where the sheet settles */
+    size_t loop;      /* how many steps the loop has; they follow the trail's; 0 where the sheet settles */
 };
-
-/* Reads a text into lent lines, 32 bytes each: the letter's byte, the kind, six numbers; unused ones are 0, and a K line
- * holds its width in the first of the six. FOLLOWUP_TEXT_LINES_BYTES are always enough. A good call changes the first
- * count * 32 bytes. Refusals: 1; then line by line 2, 3, 4, 5, 6 in this order; last of all 7. */
-struct followup_reply followup_read(const uint8_t *text, size_t text_len, uint8_t *lines, size_t lines_len);
-
-/* Writes lent lines, 32 bytes each, as text. FOLLOWUP_TEXT_MAX bytes of text are always enough. A good call changes the
- * first count bytes. Refusals: 8, also for an incomplete last line; 1; 9. */
-struct followup_reply followup_write(const uint8_t *lines, size_t lines_len, uint8_t *text, size_t text_len);
-
-/* The number of a record's pattern; its fields are 4 bytes each. Refusal: 10. */
-struct followup_reply followup_pattern(const uint8_t *fields, size_t fields_len);
-
-/* Judges lent lines, 32 bytes each, as reading gives them. At least FOLLOWUP_STEPS_BYTES of steps are to be lent. A good call
- * changes the first (trail + turns) * 10 bytes of them. Refusals: 12; 8; 11. */
-struct followup_judge_reply followup_judge(const uint8_t *lines, size_t lines_len, uint8_t *steps, size_t steps_len);
 
 /* A step fires its rule on the record that the step before it made, the first on the starting row, and goes on with the record
  * that one of the rule's H lines makes. Rules count from 1 in sheet order, H lines from 1 within their rule, fields from 1.
@@ -128,6 +125,120 @@ struct followup_step {
     uint16_t to;    /* to field, 1 to 6, or 0 */
     uint16_t fresh; /* 1: fresh, 0: carried or reaching */
 };
+
+/* Where a line of a text stands: its bytes are start to end - 1, the last of them byte 10. */
+struct followup_span {
+    size_t start;
+    size_t end;
+};
+
+/* What the archive exports: each name below with the interface's number at its end, and followup_version as it is. */
+#define FOLLOWUP_JOIN_2(name, version) name##_v##version
+#define FOLLOWUP_JOIN(name, version) FOLLOWUP_JOIN_2(name, version)
+#define FOLLOWUP_EXPORTED(name) FOLLOWUP_JOIN(name, FOLLOWUP_VERSION)
+
+/* The interface's number of the archive that is linked. */
+uint32_t followup_version(void);
+
+struct followup_reply FOLLOWUP_EXPORTED(followup_read)(const uint8_t *text, size_t text_len, uint8_t *lines, size_t lines_len);
+struct followup_reply FOLLOWUP_EXPORTED(followup_write)(const uint8_t *lines, size_t lines_len, uint8_t *text, size_t text_len);
+struct followup_reply FOLLOWUP_EXPORTED(followup_pattern)(const uint8_t *fields, size_t fields_len);
+struct followup_judge_reply FOLLOWUP_EXPORTED(followup_judge)(const uint8_t *lines, size_t lines_len, uint8_t *steps, size_t steps_len);
+struct followup_judge_reply FOLLOWUP_EXPORTED(followup_judge_text)(const uint8_t *text, size_t text_len, uint8_t *steps, size_t steps_len);
+struct followup_step FOLLOWUP_EXPORTED(followup_step_at)(const uint8_t *steps, size_t steps_len, size_t k);
+struct followup_span FOLLOWUP_EXPORTED(followup_line_span)(const uint8_t *text, size_t text_len, size_t number);
+
+/* Reads a text into lent lines, 32 bytes each: the letter's byte, the kind, six numbers; unused ones are 0, and a K line
+ * holds its width in the first of the six. FOLLOWUP_TEXT_LINES_BYTES are always enough. A good call changes the first
+ * count * 32 bytes. Refusals: 1; then line by line 2, 3, 4, 5, 6 in this order; last of all 7. */
+static inline struct followup_reply followup_read(const uint8_t *text, size_t text_len, uint8_t *lines, size_t lines_len)
+{
+    uint8_t none = 0;
+    return FOLLOWUP_EXPORTED(followup_read)(text_len ? text : &none, text_len, lines_len ? lines : &none, lines_len);
+}
+
+/* Writes lent lines, 32 bytes each, as text. FOLLOWUP_TEXT_MAX bytes of text are always enough. A good call changes the
+ * first count bytes. Refusals: 8, also for an incomplete last line; 1; 9. */
+static inline struct followup_reply followup_write(const uint8_t *lines, size_t lines_len, uint8_t *text, size_t text_len)
+{
+    uint8_t none = 0;
+    return FOLLOWUP_EXPORTED(followup_write)(lines_len ? lines : &none, lines_len, text_len ? text : &none, text_len);
+}
+
+/* The number of a record's pattern; its fields are 4 bytes each. Refusal: 10. */
+static inline struct followup_reply followup_pattern(const uint8_t *fields, size_t fields_len)
+{
+    uint8_t none = 0;
+    return FOLLOWUP_EXPORTED(followup_pattern)(fields_len ? fields : &none, fields_len);
+}
+
+/* Judges lent lines, 32 bytes each, as reading gives them. No lines settle: where followup_read refuses, its count is 0, so look at
+ * its refusal before judging what it counted, or call followup_judge_text. At least FOLLOWUP_STEPS_BYTES of steps are to be
+ * lent. A good call changes the first (trail + loop) * 10 bytes of them. Refusals: 12; 8; 11. */
+static inline struct followup_judge_reply followup_judge(const uint8_t *lines, size_t lines_len, uint8_t *steps, size_t steps_len)
+{
+    uint8_t none = 0;
+    return FOLLOWUP_EXPORTED(followup_judge)(lines_len ? lines : &none, lines_len, steps_len ? steps : &none, steps_len);
+}
+
+/* Judges a text: reads it and judges its lines. Steps as with followup_judge. Refusals: 12; reading's (1; then line by line 2 to 6);
+ * 11. An empty text settles. */
+static inline struct followup_judge_reply followup_judge_text(const uint8_t *text, size_t text_len, uint8_t *steps, size_t steps_len)
+{
+    uint8_t none = 0;
+    return FOLLOWUP_EXPORTED(followup_judge_text)(text_len ? text : &none, text_len, steps_len ? steps : &none, steps_len);
+}
+
+/* Step k, counted from 0, of the lent steps: the trail's steps are 0 to trail - 1, the loop's trail to trail + loop - 1. All zeros
+ * where the bytes hold no step k. */
+static inline struct followup_step followup_step_at(const uint8_t *steps, size_t steps_len, size_t k)
+{
+    uint8_t none = 0;
+    return FOLLOWUP_EXPORTED(followup_step_at)(steps_len ? steps : &none, steps_len, k);
+}
+
+/* Where the line of that number, counted from 1 as a refusal counts, stands in a text. Start and end are the same where the text has
+ * no such line, and where it is a last one without byte 10: both are then where the last whole line ends. */
+static inline struct followup_span followup_line_span(const uint8_t *text, size_t text_len, size_t number)
+{
+    uint8_t none = 0;
+    return FOLLOWUP_EXPORTED(followup_line_span)(text_len ? text : &none, text_len, number);
+}
+
+/* A sentence for a refusal; any number is allowed. */
+static inline const char *followup_refusal_text(uint32_t refusal)
+{
+    switch (refusal) {
+    case FOLLOWUP_GOOD:
+        return "There is no refusal.";
+    case FOLLOWUP_TEXT_LONG:
+        return "The text is longer than 32,768 bytes.";
+    case FOLLOWUP_FORM_WRONG:
+        return "The line is not in the form: one letter (K, B, H or R), number columns nine wide, a line feed.";
+    case FOLLOWUP_OUT_OF_PLACE:
+        return "The line is out of place, or a rule has no H line.";
+    case FOLLOWUP_KIND_WRONG:
+        return "A kind or a width is outside its range or order, the kind is not declared, or the line is not as wide as its kind.";
+    case FOLLOWUP_MARK_WRONG:
+        return "A mark is outside 1 to 12, or skips one.";
+    case FOLLOWUP_TOO_MANY:
+        return "There is one rule, H line or row too many.";
+    case FOLLOWUP_LINES_SHORT:
+        return "There are more lines than the lent memory has room for.";
+    case FOLLOWUP_LINE_WRONG:
+        return "The lent line is none of a sheet.";
+    case FOLLOWUP_TEXT_SHORT:
+        return "The text is longer than the lent memory.";
+    case FOLLOWUP_FIELD_COUNT:
+        return "A record has one to six fields.";
+    case FOLLOWUP_SHAPES_OVER:
+        return "The reachable records show more than 512 shapes.";
+    case FOLLOWUP_STEPS_SHORT:
+        return "Fewer than 4,096 steps are lent.";
+    default:
+        return "There is no refusal of this number.";
+    }
+}
 
 /* The u16 that stands at two bytes. */
 static inline uint16_t followup_u16(const uint8_t *bytes)
@@ -154,19 +265,6 @@ static inline void followup_put_u32(uint8_t *bytes, uint32_t number)
 static inline uint32_t followup_line_number(const uint8_t *lines, size_t n, size_t k)
 {
     return followup_u32(lines + n * FOLLOWUP_LINE_BYTES + k * 4);
-}
-
-/* Step k, counted from 0, of the lent steps: the trail's steps are 0 to trail - 1, the loop's trail to trail + turns - 1. */
-static inline struct followup_step followup_step_at(const uint8_t *steps, size_t k)
-{
-    const uint8_t *at = steps + k * FOLLOWUP_STEP_BYTES;
-    struct followup_step step;
-    step.rule = followup_u16(at);
-    step.head = followup_u16(at + 2);
-    step.from = followup_u16(at + 4);
-    step.to = followup_u16(at + 6);
-    step.fresh = followup_u16(at + 8);
-    return step;
 }
 
 #ifdef __cplusplus

@@ -1,580 +1,47 @@
-/* Tries the library through its C header: answers, refusals, lent memory, odd lengths, small stacks, threads, noise.
- *
- * The input of each call ends at a page that cannot be read. Lent memory lies between guard areas; it and they are filled with
- * noise and compared byte for byte after the call. Each call is made twice, with other noise at another place: what it counts in
- * its answer has to be the same. The seed is fixed. */
+/* Tries the library through its C header: answers, refusals, lent memory, odd lengths, small stacks, threads, noise. */
 #define _DEFAULT_SOURCE
-#include "followup.h"
+#include "check_steps.h"
+#include "test_sheets.h"
 
 #include <pthread.h>
 #include <stdio.h>
-#include <stdlib.h>
 #include <string.h>
-#include <sys/mman.h>
 
 _Static_assert(sizeof(size_t) == 8, "x86-64");
 _Static_assert(sizeof(struct followup_reply) == 24 && offsetof(struct followup_reply, line) == 8 && offsetof(struct followup_reply, count) == 16,
                "layout of a reply");
 _Static_assert(sizeof(struct followup_judge_reply) == 80 && offsetof(struct followup_judge_reply, verdict) == 16 &&
-                   offsetof(struct followup_judge_reply, turns) == 72,
+                   offsetof(struct followup_judge_reply, loop) == 72,
                "layout of a judge's reply");
+_Static_assert(sizeof(struct followup_span) == 16 && offsetof(struct followup_span, end) == 8, "layout of a span");
+_Static_assert(sizeof(struct followup_step) == 10 && offsetof(struct followup_step, fresh) == 8, "layout of a step");
 
-#define PAGE ((size_t)4096)
 #define MILLION ((size_t)1000000)
-#define GUARD ((size_t)256)
-#define ROOM ((size_t)1 << 20) /* of the input and of lent memory */
-#define ANY SIZE_MAX           /* a figure that is the library's choice */
+#define ANY SIZE_MAX /* a figure that is the library's choice */
 
-/* ---- checks ---- */
-
-static unsigned long checks, failures, group_start;
-static const char *group = "", *subject = "";
-static char note[200]; /* what the group's line says beside its name and count */
-
-static void check(int good, const char *what)
+/* Whether each line of the text is found, and none beyond them. */
+static int lines_found(void)
 {
-    checks++;
-    if (good)
-        return;
-    failures++;
-    if (failures <= 20)
-        printf("FAILED: %s: %s: %s\n", group, subject, what);
-}
-
-static void begin_group(const char *name)
-{
-    group = name;
-    subject = "";
-    note[0] = 0;
-    group_start = checks;
-}
-
-static void end_group(void)
-{
-    printf("%s: %lu checks%s\n", group, checks - group_start, note);
-}
-
-static void stop(const char *what)
-{
-    fprintf(stderr, "test: %s failed\n", what);
-    exit(1);
-}
-
-/* ---- noise ---- */
-
-static uint64_t seed = 0x5eed0f0110a5b3c7u;
-
-static uint64_t draw(void)
-{
-    seed ^= seed << 13;
-    seed ^= seed >> 7;
-    seed ^= seed << 17;
-    return seed * 0x2545f4914f6cdd1du;
-}
-
-/* A number from 0 to below n. */
-static size_t below(size_t n)
-{
-    return (size_t)((draw() >> 11) % n);
-}
-
-static void fill(uint8_t *bytes, size_t size)
-{
-    size_t k = 0;
-    for (; k + 8 <= size; k += 8) {
-        uint64_t word = draw();
-        memcpy(bytes + k, &word, 8);
-    }
-    for (; k < size; k++)
-        bytes[k] = (uint8_t)(draw() >> 32);
-}
-
-/* ---- memory ---- */
-
-static uint8_t *input_end;               /* the page here cannot be read */
-static uint8_t *stack;                   /* FOLLOWUP_STACK bytes above a page that cannot be written */
-static uint8_t lent[ROOM + 3 * GUARD];   /* guard, lent memory, guard */
-static uint8_t held[sizeof lent];        /* what it held before the call */
-static uint8_t result[ROOM + 3 * GUARD]; /* what the last call counted in its answer */
-
-static uint8_t *map(size_t size)
-{
-    void *at = mmap(NULL, size, PROT_READ | PROT_WRITE, MAP_PRIVATE | MAP_ANONYMOUS, -1, 0);
-    if (at == MAP_FAILED)
-        stop("mmap");
-    return at;
-}
-
-static void map_memory(void)
-{
-    uint8_t *input = map(ROOM + PAGE);
-    input_end = input + ROOM;
-    if (mprotect(input_end, PAGE, PROT_NONE) != 0)
-        stop("mprotect");
-    uint8_t *below_stack = map(PAGE + FOLLOWUP_STACK);
-    stack = below_stack + PAGE;
-    if (mprotect(below_stack, PAGE, PROT_NONE) != 0)
-        stop("mprotect");
-}
-
-/* Lends so many bytes of noise, at any alignment. */
-static uint8_t *lend(size_t size)
-{
-    size_t at = GUARD + below(16);
-    fill(lent, at + size + GUARD);
-    memcpy(held, lent, at + size + GUARD);
-    return lent + at;
-}
-
-/* Whether nothing but the first `changed` bytes of the lent ones is changed. */
-static int kept(const uint8_t *bytes, size_t size, size_t changed)
-{
-    size_t at = (size_t)(bytes - lent);
-    size_t rest = at + changed;
-    return memcmp(lent, held, at) == 0 && memcmp(lent + rest, held + rest, size - changed + GUARD) == 0;
-}
-
-/* ---- calls ---- */
-
-enum call { NOTHING, READ, WRITE, PATTERN, JUDGE, CALLS };
-
-struct job {
-    enum call call;
-    const uint8_t *in;
-    size_t in_len;
-    uint8_t *out;
-    size_t out_len;
-    struct followup_judge_reply said; /* of the other calls: refusal and line */
-    size_t count;
-};
-
-static void keep_reply(struct job *job, struct followup_reply reply)
-{
-    memset(&job->said, 0, sizeof job->said);
-    job->said.refusal = reply.refusal;
-    job->said.line = reply.line;
-    job->count = reply.count;
-}
-
-static void *make_call(void *arg)
-{
-    struct job *job = arg;
-    job->count = 0;
-    if (job->call == READ)
-        keep_reply(job, followup_read(job->in, job->in_len, job->out, job->out_len));
-    else if (job->call == WRITE)
-        keep_reply(job, followup_write(job->in, job->in_len, job->out, job->out_len));
-    else if (job->call == PATTERN)
-        keep_reply(job, followup_pattern(job->in, job->in_len));
-    else if (job->call == JUDGE)
-        job->said = followup_judge(job->in, job->in_len, job->out, job->out_len);
-    return NULL;
-}
-
-static int small_stack;          /* whether calls are made on a stack of FOLLOWUP_STACK bytes */
-static size_t stack_used[CALLS]; /* the most that such a call used */
-
-static void call_on_small_stack(struct job *job)
-{
-    pthread_attr_t attr;
-    pthread_t thread;
-    size_t left = 0;
-    memset(stack, 0xa5, FOLLOWUP_STACK);
-    if (pthread_attr_init(&attr) != 0 || pthread_attr_setstack(&attr, stack, FOLLOWUP_STACK) != 0)
-        stop("pthread_attr_setstack");
-    if (pthread_create(&thread, &attr, make_call, job) != 0 || pthread_join(thread, NULL) != 0)
-        stop("pthread_create");
-    pthread_attr_destroy(&attr);
-    while (left < FOLLOWUP_STACK && stack[left] == 0xa5)
-        left++;
-    if (stack_used[job->call] < FOLLOWUP_STACK - left)
-        stack_used[job->call] = FOLLOWUP_STACK - left;
-}
-
-/* How many bytes of lent memory the answer counts. */
-static size_t counted(const struct job *job)
-{
-    if (job->said.refusal != 0 || job->call == PATTERN)
-        return 0;
-    if (job->call == JUDGE)
-        return (job->said.trail + job->said.turns) * FOLLOWUP_STEP_BYTES;
-    return job->call == READ ? job->count * FOLLOWUP_LINE_BYTES : job->count;
-}
-
-/* Whether the answer is in the form: line 0 in a good one, no figure beside the line in a refusal. */
-static int reply_in_form(const struct job *job)
-{
-    const struct followup_judge_reply *said = &job->said;
-    if (said->refusal == 0)
-        return said->line == 0;
-    return said->refusal <= 12 && job->count == 0 && said->verdict == 0 && said->deepest == 0 && said->shapes == 0 && said->fired == 0 &&
-           said->share == 0 && said->row == 0 && said->trail == 0 && said->turns == 0;
-}
-
-static int same_reply(const struct job *a, const struct job *b)
-{
-    const struct followup_judge_reply *x = &a->said, *y = &b->said;
-    return x->refusal == y->refusal && x->line == y->line && a->count == b->count && x->verdict == y->verdict && x->deepest == y->deepest &&
-           x->shapes == y->shapes && x->fired == y->fired && x->share == y->share && x->row == y->row && x->trail == y->trail &&
-           x->turns == y->turns;
-}
-
-/* Makes a call twice and checks what holds of every call. `result` is what it counts. */
-static struct job try_call(enum call call, const uint8_t *bytes, size_t size, size_t lent_size)
-{
-    struct job first = {.call = NOTHING};
-    uint8_t *in = input_end - size;
-    memcpy(in, bytes, size);
-    for (int turn = 0; turn < 2; turn++) {
-        struct job job = {.call = call, .in = in, .in_len = size, .out = lend(lent_size), .out_len = lent_size};
-        if (small_stack)
-            call_on_small_stack(&job);
-        else
-            make_call(&job);
-        check(reply_in_form(&job), "an answer in its form");
-        check(memcmp(in, bytes, size) == 0, "the input is as it was");
-        size_t changed = counted(&job);
-        check(changed <= lent_size, "no more is counted than was lent");
-        if (changed > lent_size)
-            return job;
-        check(kept(job.out, lent_size, changed), "lent memory holds what it held beside what is counted");
-        if (turn == 0)
-            memcpy(result, job.out, changed);
-        else
-            check(same_reply(&first, &job) && memcmp(result, job.out, changed) == 0, "the same answer whatever lent memory held");
-        first = job;
-    }
-    return first;
-}
-
-static int says(const struct job *job, uint32_t refusal, size_t line)
-{
-    return job->said.refusal == refusal && job->said.line == line;
-}
-
-/* ---- sheets: the text and, made apart from it, the lines ---- */
-
-static uint8_t text[ROOM], lines[ROOM];
-static size_t text_size, lines_size;
-
-static void clear(void)
-{
-    text_size = lines_size = 0;
-}
-
-static void raw(const char *bytes)
-{
-    memcpy(text + text_size, bytes, strlen(bytes));
-    text_size += strlen(bytes);
-}
-
-static void add(char letter, const uint32_t *numbers, size_t count)
-{
-    text[text_size++] = (uint8_t)letter;
-    memset(lines + lines_size, 0, FOLLOWUP_LINE_BYTES);
-    followup_put_u32(lines + lines_size, (uint32_t)letter);
-    for (size_t k = 0; k < count; k++) {
-        text_size += (size_t)snprintf((char *)text + text_size, 10, "%9u", (unsigned)numbers[k]);
-        if (k < 7)
-            followup_put_u32(lines + lines_size + 4 * (k + 1), numbers[k]);
-    }
-    text[text_size++] = 10;
-    lines_size += FOLLOWUP_LINE_BYTES;
-}
-
-/* Adds lines given as in "K 1 2;B 1 1 2;H 1 2 3;R 1 7 8". */
-static void sheet(const char *form)
-{
-    while (*form != 0) {
-        uint32_t numbers[8];
-        size_t count = 0;
-        char letter = *form++;
-        while (*form == ' ') {
-            char *end;
-            uint32_t number = (uint32_t)strtoul(form, &end, 10);
-            if (count < 8)
-                numbers[count++] = number;
-            form = end;
-        }
-        add(letter, numbers, count);
-        if (*form == ';')
-            form++;
-    }
-}
-
-/* Adds a line of a kind; its fields are the decimal digits of `fields`. */
-static void digits(char letter, uint32_t kind, const char *fields)
-{
-    uint32_t numbers[7] = {kind};
-    size_t width = strlen(fields);
-    for (size_t k = 0; k < width; k++)
-        numbers[k + 1] = (uint32_t)(fields[k] - '0');
-    add(letter, numbers, width + 1);
-}
-
-static void kinds(uint32_t count, uint32_t width)
-{
-    for (uint32_t kind = 1; kind <= count; kind++)
-        add('K', (uint32_t[]){kind, width}, 2);
-}
-
-/* Rules on kind 1 of width 1 that carry their number over. */
-static void copy_rules(size_t count, size_t heads)
-{
-    for (size_t rule = 0; rule < count; rule++) {
-        sheet("B 1 1");
-        for (size_t head = 0; head < heads; head++)
-            sheet("H 1 1");
-    }
-}
-
-static void rows(size_t count)
-{
-    for (uint32_t row = 0; row < count; row++)
-        add('R', (uint32_t[]){1, row}, 2);
-}
-
-/* ---- steps ---- */
-
-struct record {
-    uint32_t kind;
-    size_t width;
-    uint32_t number[FOLLOWUP_WIDTH_MAX];
-    size_t generation[FOLLOWUP_WIDTH_MAX];
-};
-
-static uint32_t number_at(size_t line, size_t k)
-{
-    return followup_line_number(lines, line, k);
-}
-
-static size_t line_count(void)
-{
-    return lines_size / FOLLOWUP_LINE_BYTES;
-}
-
-/* The place, counted from 0, of the nth line of that letter; line_count() where there is none. */
-static size_t place_of(char letter, size_t nth)
-{
-    for (size_t line = 0; line < line_count(); line++)
-        if (number_at(line, 0) == (uint32_t)letter && --nth == 0)
-            return line;
-    return line_count();
-}
-
-static size_t width_of(uint32_t kind)
-{
-    for (size_t line = 0; line < line_count(); line++)
-        if (number_at(line, 0) == 'K' && number_at(line, 1) == kind)
-            return number_at(line, 2);
-    return 0;
-}
-
-/* The first field, counted from 1, of a line that has the mark; 0 where none has. */
-static size_t field_of(size_t line, uint32_t mark)
-{
-    size_t width = width_of(number_at(line, 1));
-    for (size_t k = 0; k < width; k++)
-        if (number_at(line, 2 + k) == mark)
-            return k + 1;
-    return 0;
-}
-
-static int is_head(size_t line)
-{
-    return line < line_count() && number_at(line, 0) == 'H';
-}
-
-/* Whether a mark of the rule at that line stands in B and in some H. */
-static int carried(size_t body, uint32_t mark)
-{
-    if (field_of(body, mark) == 0)
-        return 0;
-    for (size_t line = body + 1; is_head(line); line++)
-        if (field_of(line, mark) != 0)
-            return 1;
-    return 0;
-}
-
-static int fires(size_t body, const struct record *on)
-{
-    if (number_at(body, 1) != on->kind)
-        return 0;
-    for (size_t k = 0; k < on->width; k++)
-        if (on->number[field_of(body, number_at(body, 2 + k)) - 1] != on->number[k])
+    size_t at = 0, number = 0;
+    while (at < text_size) {
+        const uint8_t *end = memchr(text + at, 10, text_size - at);
+        struct followup_span span = followup_line_span(text, text_size, ++number);
+        size_t next = end != NULL ? (size_t)(end - text) + 1 : at;
+        if (span.start != at || span.end != next)
             return 0;
-    return 1;
-}
-
-/* The record that an H line makes. A number is fresh by any name that was not used before: what a rule made earlier is either among
- * the carried values, and then the number is another one, or not in the record made. */
-static struct record made_by(size_t body, size_t head, const struct record *on)
-{
-    static uint32_t used = FOLLOWUP_NUMBER_MAX;
-    struct record made = {.kind = number_at(head, 1), .width = width_of(number_at(head, 1))};
-    size_t generation = 0;
-    for (size_t k = 0; k < on->width; k++)
-        if (carried(body, number_at(body, 2 + k)) && generation < on->generation[k])
-            generation = on->generation[k];
-    for (size_t k = 0; k < made.width; k++) {
-        uint32_t mark = number_at(head, 2 + k);
-        size_t field = field_of(body, mark);
-        made.number[k] = field != 0 ? on->number[field - 1] : used + mark;
-        made.generation[k] = field != 0 ? on->generation[field - 1] : generation + 1;
+        if (end == NULL)
+            break;
+        at = next;
     }
-    used += FOLLOWUP_MARKS_MAX;
-    return made;
-}
-
-/* Whether the numbers of a carried or fresh step are right. */
-static int fields_hold(struct followup_step step, size_t body, size_t head, const struct record *on, const struct record *made)
-{
-    int carries = 0, depends = 0;
-    if (step.fresh > 1 || step.to == 0 || step.to > made->width || step.from > on->width)
-        return 0;
-    int fresh = field_of(body, number_at(head, 1 + step.to)) == 0;
-    if (step.fresh != fresh)
-        return 0;
-    if (!fresh)
-        return step.from != 0 && on->number[step.from - 1] == made->number[step.to - 1];
-    for (size_t k = 0; k < on->width; k++)
-        if (carried(body, number_at(body, 2 + k))) {
-            carries = 1;
-            if (step.from != 0 && on->number[k] == on->number[step.from - 1])
-                depends = 1;
-        }
-    return step.from == 0 ? !carries : depends;
-}
-
-static int reaching(struct followup_step step)
-{
-    return step.from == 0 && step.to == 0 && step.fresh == 0;
-}
-
-/* Fires step k on the record and puts the record made in its place; 0 where the firing doesn't fit or a number of the step is wrong. */
-static int fire(const uint8_t *steps, size_t k, struct record *on)
-{
-    struct followup_step step = followup_step_at(steps, k);
-    size_t body = place_of('B', step.rule), head = body + step.head;
-    if (step.rule == 0 || step.head == 0 || step.head > FOLLOWUP_HEADS_MAX || body == line_count())
-        return 0;
-    for (size_t line = body + 1; line <= head; line++)
-        if (!is_head(line))
-            return 0;
-    if (!fires(body, on))
-        return 0;
-    struct record made = made_by(body, head, on);
-    int good = reaching(step) || fields_hold(step, body, head, on, &made);
-    *on = made;
-    return good;
-}
-
-/* A number for the shape of a record and one of its fields, or 0: the digits to base 8 are the kind, six for the pattern, the field. */
-static uint64_t pair_of(const struct record *record, size_t field)
-{
-    uint64_t pair = record->kind;
-    for (size_t k = 0; k < FOLLOWUP_WIDTH_MAX; k++) {
-        size_t first = 0;
-        while (first < k && record->number[first] != record->number[k])
-            first++;
-        pair = pair * 8 + (k < record->width ? first + 1 : 0);
-    }
-    return pair * 8 + field;
-}
-
-static int among(const uint64_t *pairs, size_t count, uint64_t pair)
-{
-    for (size_t k = 0; k < count; k++)
-        if (pairs[k] == pair)
-            return 1;
-    return 0;
-}
-
-static int start_at(size_t row, struct record *record)
-{
-    size_t line = place_of('R', row);
-    if (row == 0 || line == line_count())
-        return 0;
-    memset(record, 0, sizeof *record);
-    record->kind = number_at(line, 1);
-    record->width = width_of(record->kind);
-    for (size_t k = 0; k < record->width; k++)
-        record->number[k] = number_at(line, 2 + k);
-    return 1;
-}
-
-/* Whether the trail is as it has to be where a sheet settles with a deepest generation above 0. */
-static int trail_holds(const uint8_t *steps, const struct followup_judge_reply *said)
-{
-    struct record record;
-    int line = 0;
-    size_t last = 0;
-    if (!start_at(said->row, &record) || said->turns != 0 || said->trail > 3583)
-        return 0;
-    for (size_t k = 0; k < said->trail; k++) {
-        struct followup_step step = followup_step_at(steps, k);
-        if (line ? step.to == 0 || step.from != last || step.from == 0 : !reaching(step) && !step.fresh)
-            return 0;
-        line = line || step.fresh;
-        last = step.to;
-        if (!fire(steps, k, &record))
+    size_t beyond[3] = {number + 1, number + 2, SIZE_MAX};
+    for (size_t k = 0; k < 3; k++) {
+        struct followup_span span = followup_line_span(text, text_size, beyond[k]);
+        if (span.start != at || span.end != at)
             return 0;
     }
-    return line && record.generation[last - 1] == said->deepest;
+    struct followup_span none = followup_line_span(text, text_size, 0);
+    return none.start == 0 && none.end == 0;
 }
-
-/* Whether the loop, from its first record on, is as it has to be. */
-static int loop_holds(const uint8_t *steps, const struct followup_judge_reply *said, struct record record)
-{
-    static uint64_t met[FOLLOWUP_STEPS];
-    int fresh = 0;
-    size_t first = followup_step_at(steps, said->trail).from, at = first;
-    if (said->turns == 0 || said->trail + said->turns > FOLLOWUP_STEPS)
-        return 0;
-    for (size_t k = 0; k < said->turns; k++) {
-        struct followup_step step = followup_step_at(steps, said->trail + k);
-        met[k] = pair_of(&record, at);
-        if (step.from == 0 || step.to == 0 || step.from != at || among(met, k, met[k]) || !fire(steps, said->trail + k, &record))
-            return 0;
-        fresh = fresh || step.fresh;
-        at = step.to;
-    }
-    if (!fresh || pair_of(&record, at) != met[0])
-        return 0;
-    for (size_t k = 0; k < 2 * said->turns; k++)
-        if (!fire(steps, said->trail + k % said->turns, &record))
-            return 0;
-    return record.generation[at - 1] >= 3;
-}
-
-/* Whether trail and loop are as they have to be where a sheet is endless. */
-static int endless_holds(const uint8_t *steps, const struct followup_judge_reply *said)
-{
-    uint64_t met[FOLLOWUP_SHAPES_MAX];
-    struct record record;
-    if (!start_at(said->row, &record) || said->deepest != 0 || said->trail >= FOLLOWUP_SHAPES_MAX)
-        return 0;
-    for (size_t k = 0; k < said->trail; k++) {
-        met[k] = pair_of(&record, 0);
-        if (!reaching(followup_step_at(steps, k)) || !fire(steps, k, &record) || among(met, k + 1, pair_of(&record, 0)))
-            return 0;
-    }
-    return loop_holds(steps, said, record);
-}
-
-/* Whether row, trail, loop and steps of a good answer are as document 01 says, for the sheet in `lines`. */
-static int steps_hold(const uint8_t *steps, const struct followup_judge_reply *said)
-{
-    if (said->verdict == FOLLOWUP_ENDLESS)
-        return endless_holds(steps, said);
-    if (said->verdict != FOLLOWUP_SETTLES)
-        return 0;
-    if (said->deepest != 0)
-        return trail_holds(steps, said);
-    return said->row == 0 && said->trail == 0 && said->turns == 0;
-}
-
-/* ---- what is tried ---- */
 
 /* Reads the sheet's text and writes its lines. */
 static void try_both_ways(void)
@@ -587,12 +54,44 @@ static void try_both_ways(void)
     check(memcmp(result, text, text_size) == 0, "the text is that of the lines");
 }
 
+/* Whether followup_step_at shows the steps that the last call counts, and none where the bytes hold none. */
+static int steps_shown(size_t count)
+{
+    struct followup_step none = {0, 0, 0, 0, 0};
+    size_t size = count * FOLLOWUP_STEP_BYTES + below(FOLLOWUP_STEP_BYTES);
+    for (size_t k = 0; k < count; k++) {
+        struct followup_step shown = followup_step_at(result, size, k), want = step_in(result, k);
+        if (memcmp(&shown, &want, sizeof shown) != 0)
+            return 0;
+    }
+    size_t beyond[4] = {count, count + 1, SIZE_MAX / 10, SIZE_MAX};
+    for (size_t k = 0; k < 4; k++) {
+        struct followup_step shown = followup_step_at(result, size, beyond[k]);
+        if (memcmp(&shown, &none, sizeof shown) != 0)
+            return 0;
+    }
+    return 1;
+}
+
+/* Judges the text of the sheet: as its lines are judged. */
+static void try_judge_text(const struct job *judged)
+{
+    static uint8_t steps[FOLLOWUP_STEPS_BYTES];
+    size_t size = counted(judged);
+    memcpy(steps, result, size);
+    struct job job = try_call(JUDGE_TEXT, text, text_size, FOLLOWUP_STEPS_BYTES + below(100));
+    check(same_reply(&job, judged) && memcmp(result, steps, size) == 0, "the text is judged as its lines are");
+}
+
 static struct followup_judge_reply try_judge(void)
 {
     struct job job = try_call(JUDGE, lines, lines_size, FOLLOWUP_STEPS_BYTES + below(100));
+    if (text_size <= FOLLOWUP_TEXT_MAX)
+        try_judge_text(&job);
     if (job.said.refusal == 0) {
+        check(steps_shown(job.said.trail + job.said.loop), "each step is shown, and none beyond");
         check(job.said.shapes <= FOLLOWUP_SHAPES_MAX && job.said.fired <= FOLLOWUP_RULES_MAX && job.said.share <= 100, "figures in their range");
-        check(steps_hold(result, &job.said), "row, trail, loop and steps are as document 01 says");
+        check(steps_hold(lines, lines_size, result, &job.said), "row, trail, loop and steps are as document 01 says");
     }
     return job.said;
 }
@@ -602,7 +101,7 @@ static void judges_as(const char *name, const size_t *want)
 {
     subject = name;
     struct followup_judge_reply said = try_judge();
-    size_t got[8] = {said.verdict, said.deepest, said.shapes, said.fired, said.share, said.row, said.trail, said.turns};
+    size_t got[8] = {said.verdict, said.deepest, said.shapes, said.fired, said.share, said.row, said.trail, said.loop};
     check(said.refusal == 0, "not refused");
     for (size_t k = 0; k < 8; k++)
         check(want[k] == ANY || want[k] == got[k], "the figures");
@@ -627,19 +126,40 @@ static void read_refuses(const char *name, size_t lent_size, uint32_t refusal, s
     subject = name;
     struct job job = try_call(READ, text, text_size, lent_size);
     check(says(&job, refusal, line), "reading is refused");
+    check(text_size > 2000 || lines_found(), "each line is found");
+    if (refusal == 7)
+        return;
+    job = try_call(JUDGE_TEXT, text, text_size, FOLLOWUP_STEPS_BYTES + below(100));
+    check(says(&job, refusal, line), "judging the text passes the refusal on");
+    job = try_call(JUDGE_TEXT, text, text_size, FOLLOWUP_STEPS_BYTES - 1 - below(100));
+    check(says(&job, 12, 0), "12 before reading's refusals");
 }
 
 static void try_header(void)
 {
-    begin_group("numbers and steps out of bytes");
+    begin_group("numbers, steps, version and sentences");
     uint8_t bytes[32] = {1, 2, 3, 4, 255, 254, 253, 252};
     check(followup_u16(bytes) == 0x0201 && followup_u16(bytes + 1) == 0x0302 && followup_u16(bytes + 4) == 0xfeff, "u16");
     check(followup_u32(bytes) == 0x04030201u && followup_u32(bytes + 4) == 0xfcfdfeffu && followup_u32(bytes + 1) == 0xff040302u, "u32");
     followup_put_u32(bytes + 9, 0xfcfdfeffu);
     check(memcmp(bytes + 9, bytes + 4, 4) == 0 && bytes[8] == 0 && bytes[13] == 0, "put");
     uint8_t steps[20] = {0, 0, 0, 0, 0, 0, 0, 0, 0, 0, 0, 1, 4, 0, 5, 0, 6, 0, 1, 0};
-    struct followup_step step = followup_step_at(steps, 1);
+    struct followup_step step = followup_step_at(steps, sizeof steps, 1);
     check(step.rule == 256 && step.head == 4 && step.from == 5 && step.to == 6 && step.fresh == 1, "step");
+    for (size_t size = 0; size < sizeof steps; size++) {
+        struct job job = {.call = STEP, .in = input_end - size, .in_len = size, .number = 1};
+        memcpy(input_end - size, steps, size);
+        make_call(&job);
+        check(job.step.rule == 0 && job.step.head == 0 && job.step.from == 0 && job.step.to == 0 && job.step.fresh == 0, "no second step");
+    }
+    check(followup_version() == FOLLOWUP_VERSION, "the archive's number is the header's");
+    for (uint32_t refusal = 0; refusal <= 12; refusal++) {
+        const char *words = followup_refusal_text(refusal);
+        check(words[0] != 0 && strcmp(words, followup_refusal_text(13)) != 0, "a sentence for each refusal");
+        for (uint32_t other = 0; other < refusal; other++)
+            check(strcmp(words, followup_refusal_text(other)) != 0, "and for each its own");
+    }
+    check(strcmp(followup_refusal_text(13), followup_refusal_text(UINT32_MAX)) == 0, "one sentence for unknown numbers");
     check(FOLLOWUP_TEXT_LINES_BYTES == 52416 && FOLLOWUP_SHEET_LINES_BYTES == 75776 && FOLLOWUP_STEPS_BYTES == 40960, "sizes");
     end_group();
 }
@@ -819,6 +339,8 @@ static void try_text_limits(void)
     subject = "a million bytes of text";
     struct job job = try_call(READ, text, MILLION, FOLLOWUP_TEXT_LINES_BYTES);
     check(says(&job, 1, 0), "reading is refused");
+    job = try_call(JUDGE_TEXT, text, MILLION, FOLLOWUP_STEPS_BYTES);
+    check(says(&job, 1, 0), "judging the text is refused");
     subject = "1,638 lines";
     most_lines();
     check(line_count() == FOLLOWUP_TEXT_LINES && text_size <= FOLLOWUP_TEXT_MAX, "the size");
@@ -919,7 +441,7 @@ static void try_odd_lengths(void)
         struct job job = try_call(WRITE, lines, lines_len, 200);
         check(more < 4 ? says(&job, 0, 0) && job.count == 107 : says(&job, 8, 5), "writing leaves a part of a number out, refuses a part of a line");
         job = try_call(JUDGE, lines, lines_len, FOLLOWUP_STEPS_BYTES);
-        check(more < 4 ? says(&job, 0, 0) && job.said.turns == 1 : says(&job, 8, 5), "and so does judging");
+        check(more < 4 ? says(&job, 0, 0) && job.said.loop == 1 : says(&job, 8, 5), "and so does judging");
         job = try_call(READ, text, 107, lines_len);
         check(says(&job, 0, 0) && job.count == 4, "reading leaves a part of a line alone");
     }
@@ -927,27 +449,46 @@ static void try_odd_lengths(void)
         struct job job = try_call(JUDGE, lines, whole, size);
         check(size < FOLLOWUP_STEPS_BYTES ? says(&job, 12, 0) : says(&job, 0, 0), "4,096 steps, and fewer");
     }
+    for (size_t size = FOLLOWUP_STEPS_BYTES - 3; size < FOLLOWUP_STEPS_BYTES + 12; size++) {
+        struct job job = try_call(JUDGE_TEXT, text, 107, size);
+        check(size < FOLLOWUP_STEPS_BYTES ? says(&job, 12, 0) : says(&job, 0, 0) && job.said.loop == 1, "4,096 steps, and fewer, for a text");
+    }
     struct job job = try_call(JUDGE, lines, whole, MILLION);
     check(says(&job, 0, 0), "a million bytes of steps");
+    job = try_call(JUDGE_TEXT, text, 107, MILLION);
+    check(says(&job, 0, 0), "a million bytes of steps for a text");
     job = try_call(JUDGE, lines, whole - 4, FOLLOWUP_STEPS_BYTES - 2);
     check(says(&job, 12, 0), "12 before 8");
     end_group();
 }
 
-/* Lengths of 0, at pointers that cannot be followed. */
+/* Lengths of 0, at pointers that cannot be followed, NULL among them. */
 static void try_nothing(void)
 {
     begin_group("length 0");
-    uint8_t *nowhere[2] = {(uint8_t *)1, input_end};
-    for (size_t k = 0; k < 2; k++) {
+    uint8_t *nowhere[3] = {NULL, (uint8_t *)1, input_end};
+    static uint8_t steps[FOLLOWUP_STEPS_BYTES];
+    for (size_t k = 0; k < 3; k++) {
         struct followup_reply reply = followup_read(nowhere[k], 0, nowhere[k], 0);
         check(reply.refusal == 0 && reply.line == 0 && reply.count == 0, "reading");
+        reply = followup_read((const uint8_t *)"x", 1, nowhere[k], 0);
+        check(reply.refusal == 2 && reply.line == 1 && reply.count == 0, "reading into nothing");
         reply = followup_write(nowhere[k], 0, nowhere[k], 0);
         check(reply.refusal == 0 && reply.line == 0 && reply.count == 0, "writing");
         reply = followup_pattern(nowhere[k], 0);
         check(reply.refusal == 10 && reply.line == 0 && reply.count == 0, "pattern");
         struct followup_judge_reply said = followup_judge(nowhere[k], 0, nowhere[k], 0);
         check(said.refusal == 12 && said.line == 0 && said.verdict == 0, "judging without steps");
+        said = followup_judge(nowhere[k], 0, steps, sizeof steps);
+        check(said.refusal == 0 && said.line == 0 && said.verdict == 1 && said.shapes == 0, "judging no lines");
+        said = followup_judge_text(nowhere[k], 0, nowhere[k], 0);
+        check(said.refusal == 12 && said.line == 0 && said.verdict == 0, "judging a text without steps");
+        said = followup_judge_text(nowhere[k], 0, steps, sizeof steps);
+        check(said.refusal == 0 && said.line == 0 && said.verdict == 1 && said.shapes == 0, "judging no text");
+        struct followup_span span = followup_line_span(nowhere[k], 0, k);
+        check(span.start == 0 && span.end == 0, "a line of nothing");
+        struct followup_step step = followup_step_at(nowhere[k], 0, 0);
+        check(step.rule == 0 && step.head == 0 && step.from == 0 && step.to == 0 && step.fresh == 0, "a step of nothing");
     }
     for (size_t size = 0; size < 4; size++) {
         struct job job = try_call(WRITE, (const uint8_t *)"abc", size, size);
@@ -1066,6 +607,8 @@ static void try_deep(void)
     judges_as("512 shapes", (size_t[]){1, 0, 512, 0, 0, 0, 0, 0});
     rows_of_shapes(513);
     judge_refuses("513 shapes", 11, 0);
+    struct job job = try_call(JUDGE_TEXT, text, text_size, FOLLOWUP_STEPS_BYTES);
+    check(says(&job, 11, 0), "judging the text is refused");
     copied_shapes();
     judges_as("511 shapes by rules", (size_t[]){1, 1, 511, 34, 100, 1, 34, 0});
     clear();
@@ -1095,8 +638,8 @@ static void try_small_stack(void)
     begin_group("stack");
     for (size_t call = 0; call < CALLS; call++)
         check(stack_used[call] < FOLLOWUP_STACK, "there is some left");
-    snprintf(note, sizeof note, " (bytes used: %zu by a thread that calls nothing, %zu with reading, %zu with writing, %zu with judging)",
-             stack_used[NOTHING], stack_used[READ], stack_used[WRITE], stack_used[JUDGE]);
+    snprintf(note, sizeof note, " (bytes used: %zu by a thread that calls nothing, %zu with reading, %zu with writing, %zu with judging, %zu with judging a text)",
+             stack_used[NOTHING], stack_used[READ], stack_used[WRITE], stack_used[JUDGE], stack_used[JUDGE_TEXT]);
     end_group();
 }
 
@@ -1234,6 +777,8 @@ static void try_random_texts(void)
                 text[k] = (uint8_t)letters[text[k] % (sizeof letters - 1)];
         struct job job = try_call(READ, text, text_size, below(5000));
         check(text_size > FOLLOWUP_TEXT_MAX ? says(&job, 1, 0) : job.said.refusal == 2 && job.said.line > 0, "noise is refused");
+        struct job judged = try_call(JUDGE_TEXT, text, text_size, FOLLOWUP_STEPS_BYTES);
+        check(same_reply(&judged, &job), "and so is judging it");
     }
     end_group();
 }
@@ -1252,7 +797,7 @@ static void try_lines_with_writing(void)
     if (wrote.said.refusal == 8)
         check(says(&judged, 8, wrote.said.line), "judging refuses the line that writing refuses");
     else
-        check(says(&judged, 11, 0) || (judged.said.refusal == 0 && steps_hold(result, &judged.said)), "lines that writing takes are judged");
+        check(says(&judged, 11, 0) || (judged.said.refusal == 0 && steps_hold(lines, lines_size, result, &judged.said)), "lines that writing takes are judged");
 }
 
 static void try_random_lines(void)
@@ -1299,10 +844,14 @@ static void try_damaged_texts(void)
         for (size_t more = 1 + below(3); more > 0; more--)
             damage_text();
         total += text_size;
+        check(lines_found(), "each line is found");
         struct job job = try_call(READ, text, text_size, FOLLOWUP_TEXT_LINES_BYTES);
         check(job.said.refusal <= 6 && job.said.refusal != 1 && (job.said.refusal == 0) == (job.said.line == 0), "refused with 2 to 6 and a line, or read");
-        if (job.said.refusal != 0)
+        if (job.said.refusal != 0) {
+            struct job judged = try_call(JUDGE_TEXT, text, text_size, FOLLOWUP_STEPS_BYTES);
+            check(same_reply(&judged, &job), "judging the text passes the refusal on");
             continue;
+        }
         good++;
         lines_size = job.count * FOLLOWUP_LINE_BYTES;
         memcpy(lines, result, lines_size);

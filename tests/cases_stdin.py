@@ -1,14 +1,19 @@
-"""Writes the cases that the program `cases` tries: cases_stdin.py [--check]
+"""Writes the cases that the program `cases` tries: cases_stdin.py [--check [PROGRAM]]
 
 They are document 01's "Sheets to try" with the figures that it gives, some more sheets, and the example sheets. The file's form is told in
-crates/cases/src/main.rt. With --check nothing is written: it fails where the stored file is not what would be written.
+crates/cases/src/main.rt. With --check nothing is written: it fails where the stored file is not what would be written. The program, target/bin/cases where
+none is named, is then tried on inputs that cannot be read; it is left out where it is not built.
 """
 import itertools
 import os
 import sys
 
+from inputs import failures
+
 ROOT = os.path.join(os.path.dirname(os.path.abspath(__file__)), "..")
 STORED = os.path.join(ROOT, "crates", "cases", "stdin")
+PRINTED = os.path.join(ROOT, "crates", "cases", "stdout")
+BUILT = os.path.join(ROOT, "target", "bin", "cases")
 SETTLES, ENDLESS = 1, 2
 
 
@@ -114,16 +119,33 @@ def written(name, text, lent, letter, figures):
     return head + letter + "".join("%9s" % ("" if n is None else n) for n in figures) + "\n" + text
 
 
+def read(path):
+    with open(path, "rb") as f:
+        return f.read()
+
+
+def tried(program):
+    """Tries the program; says how much and what failed. An empty input has no sheets, only the two patterns."""
+    patterns_only = read(PRINTED).splitlines(keepends=True)[-3:-1] + [b"2 cases, all match\n"]
+    return failures(program, read(STORED), read(PRINTED), b"".join(patterns_only))
+
+
 def main():
     made = "".join(written(*c) for c in CASES).encode("ascii")
-    if sys.argv[1:] != ["--check"]:
+    if sys.argv[1:2] != ["--check"]:
         with open(STORED, "wb") as f:
             f.write(made)
         return 0
-    with open(STORED, "rb") as f:
-        stored = f.read()
-    print("cases: %d cases, the stored file is %s" % (len(CASES), "up to date" if stored == made else "not what would be written"))
-    return 0 if stored == made else 1
+    program = (sys.argv[2:] + [BUILT])[0]
+    inputs, wrong = tried(program) if os.path.exists(program) else (0, [])
+    for name in wrong:
+        print("cases: %s" % name[:300])
+    right = read(STORED) == made
+    print(
+        "cases: %d cases, the stored file is %s; %d inputs, %d failed"
+        % (len(CASES), "up to date" if right else "not what would be written", inputs, len(wrong))
+    )
+    return 0 if right and not wrong else 1
 
 
 if __name__ == "__main__":

@@ -6,6 +6,8 @@ import itertools
 import subprocess
 import sys
 
+from inputs import failures
+
 
 def line(letter, *numbers):
     return letter + "".join("%9d" % n for n in numbers) + "\n"
@@ -71,7 +73,11 @@ def main():
         if got != want:
             failed += 1
             print("judge: %s: wanted %r, got %r" % (name, want[:200], got[:200]))
-    print("judge: %d sheets, %d failed" % (len(CASES), failed))
+    tried, wrong = failures(program, CASES[0][1].encode("latin-1"), CASES[0][2].encode("latin-1"), CASES[1][2].encode("latin-1"))
+    for name in wrong:
+        failed += 1
+        print("judge: %s" % name)
+    print("judge: %d sheets and %d inputs, %d failed" % (len(CASES), tried, failed))
     return 1 if failed else 0
 
 

@@ -5,6 +5,8 @@ A text that is a sheet must come back byte for byte; any other gives its refusal
 import subprocess
 import sys
 
+from inputs import failures
+
 
 def line(letter, *numbers):
     return letter + "".join("%9d" % n for n in numbers) + "\n"
@@ -142,7 +144,11 @@ def main():
         if got != want:
             failed += 1
             print("roundtrip: %s: wanted %r, got %r" % (name, want[:60], got[:60]))
-    print("roundtrip: %d texts, %d failed" % (len(CASES), failed))
+    tried, wrong = failures(program, EXAMPLE.encode("latin-1"), EXAMPLE.encode("latin-1"), b"")
+    for name in wrong:
+        failed += 1
+        print("roundtrip: %s" % name)
+    print("roundtrip: %d texts and %d inputs, %d failed" % (len(CASES), tried, failed))
     return 1 if failed else 0
 
 

@@ -2,7 +2,7 @@
 //! links between their values (the dependency graph), its strongly connected
 //! components and, where none holds a fresh link, the longest path.
 
-use crate::layout::{first_appearance, Refusal, Rule, Sheet};
+use crate::layout::{first_appearance, read, Refusal, Rule, Sheet, MOST_BYTES};
 use std::collections::HashMap;
 use std::hash::{BuildHasherDefault, Hasher};
 
@@ -53,6 +53,19 @@ pub fn judge(numbers: &[u32], lent_steps: usize) -> Result<Verdict, Refusal> {
         None => show_deepest(&graph, &parts, &mut verdict),
     }
     Ok(verdict)
+}
+
+/// Judges a text: 12 comes before reading's refusals, 1 to 6, and 11 after them.
+pub fn judge_text(text: &[u8], lent_steps: usize) -> Result<Verdict, Refusal> {
+    if lent_steps < LEAST_STEPS {
+        return Err(Refusal {
+            number: 12,
+            line: 0,
+        });
+    }
+    // No text has more lines than bytes.
+    let lines = read(text, MOST_BYTES)?;
+    judge(lines.as_flattened(), lent_steps)
 }
 
 /// 100 × fired / rules to the nearest whole, half upward.

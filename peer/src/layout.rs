@@ -54,6 +54,23 @@ pub fn read(text: &[u8], room: usize) -> Result<Vec<Line>, Refusal> {
     Ok(lines)
 }
 
+/// Where a line of a text, counted from 1, begins, and where it ends after its byte 10.
+/// Where there is no such line, both are where a walker stays: after the last line that
+/// has a byte 10; for line 0, at the beginning.
+pub fn line_span(text: &[u8], number: usize) -> (usize, usize) {
+    let feeds = text.iter().enumerate().filter(|(_, &byte)| byte == b'\n');
+    let (mut start, mut end) = (0, 0);
+    let mut lines = 0;
+    for (at, _) in feeds.take(number) {
+        (start, end) = (end, at + 1);
+        lines += 1;
+    }
+    if lines < number {
+        start = end;
+    }
+    (start, end)
+}
+
 /// One line of text without its byte 10: the lent line and its column count.
 fn parse(text: &[u8]) -> Option<(Line, usize)> {
     let (&letter, columns) = text.split_first()?;

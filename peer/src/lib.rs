@@ -10,6 +10,6 @@ mod tests;
 pub mod verify;
 
 pub use chase::{chase, Chased};
-pub use judge::{judge, Verdict};
-pub use layout::{pattern, read, write, Line, Refusal};
+pub use judge::{judge, judge_text, Verdict};
+pub use layout::{line_span, pattern, read, write, Line, Refusal};
 pub use verify::verify;

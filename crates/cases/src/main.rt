@@ -1,19 +1,20 @@
 // Tries document 01's sheets and the example sheets. What the judge says of each is compared with the figures that document 01 gives and with a
 // small chase; the judge's steps are fired in that chase. Prints a line for each case.
 //
-// Standard input holds the cases one after the other, each as two lines of fixed length and then the sheet's text:
+// The input holds the cases one after the other, each as two lines of fixed length and then the sheet's text:
 //   C, how many bytes the text has, how many steps are lent, a blank, the case's name in 40 places
 //   V and the eight numbers of a verdict, or N and the two of a refusal and six blank columns; a blank column is a number that is not given
+mod lines;
 mod small_chase;
 mod table;
 mod walk;
 
 ghost use mathlib.Core.Path.{_≡_};
-ghost use Prim.Native.Nat.{_<_};
+ghost use Prim.Native.Nat.{_+_, _≤_, _<_};
 ghost use lib.ListN.{length};
+use console::Input;
 use judging::Figures;
 use judging::JudgeAnswer;
-use libc::STDOUT_FILENO;
 use sheet::PatternAnswer;
 use sheet::ReadAnswer;
 
@@ -29,10 +30,18 @@ struct Tried {
     pub differ: usize,
 }
 
-fn room_for_text() -> [u8; 32769]
-    ensures { λ r. ⌜ length r ≡ 32769 ⌝ }
+// Room for the cases.
+fn room_for_input() -> [u8; 196608]
+    ensures { λ r. ⌜ length r ≡ 196608 ⌝ }
 {
-    [0; 32769]
+    [0; 196608]
+}
+
+// Room for what is printed; what does not fit is left out.
+fn room_for_output() -> [u8; 65536]
+    ensures { λ r. ⌜ length r ≡ 65536 ⌝ }
+{
+    [0; 65536]
 }
 
 fn room_for_lines() -> [u32; 13104]
@@ -114,49 +123,70 @@ fn as_given(head: &[u8], said: Said) -> bool {
     true
 }
 
-fn print(text: &[u8]) {
-    io::write_all(STDOUT_FILENO, text);
-}
-
-fn print_number(before: &[u8], n: usize) {
-    print(before);
-    io::print_decimal(STDOUT_FILENO, n as u64);
-}
-
-fn print_name(head: &[u8]) {
-    if 60 <= head.len() {
-        print(&head[20..60]);
+// Puts a text after the first `end` bytes of the output, as far as there is room. Says where it ends.
+fn put(out: &mut [u8], end: usize, text: &[u8]) -> usize {
+    let mut at = end;
+    let mut i: usize = 0;
+    while i < text.len() {
+        if out.len() <= at {
+            return at;
+        }
+        out[at] = text[i];
+        at += 1;
+        i += 1;
     }
+    at
+}
+
+fn print(out: &mut [u8], end: &mut usize, text: &[u8]) {
+    *end = put(out, *end, text);
+}
+
+fn print_number(out: &mut [u8], end: &mut usize, before: &[u8], n: usize) {
+    print(out, end, before);
+    let mut digits = [0u8; 20];
+    let count = io::decimal(n as u64, &mut digits);
+    print(out, end, &digits[..count]);
+}
+
+fn print_name(out: &mut [u8], end: &mut usize, head: &[u8]) {
+    if 60 <= head.len() {
+        print(out, end, &head[20..60]);
+    }
+}
+
+fn print_verdict(out: &mut [u8], end: &mut usize, verdict: usize) {
+    if verdict == 1 {
+        print(out, end, b" settles");
+        return;
+    }
+    print(out, end, b" endless");
 }
 
 // Prints the numbers of a verdict that the chase finds too.
-fn print_figures(n: [usize; 8]) {
-    if n[0] == 1 {
-        print(b" settles");
-    } else {
-        print(b" endless");
-    }
-    print_number(b", deepest ", n[1]);
-    print_number(b", shapes ", n[2]);
-    print_number(b", fired ", n[3]);
-    print_number(b", share ", n[4]);
+fn print_figures(out: &mut [u8], end: &mut usize, n: [usize; 8]) {
+    print_verdict(out, end, n[0]);
+    print_number(out, end, b", deepest ", n[1]);
+    print_number(out, end, b", shapes ", n[2]);
+    print_number(out, end, b", fired ", n[3]);
+    print_number(out, end, b", share ", n[4]);
 }
 
-fn print_said(said: Said) {
+fn print_said(out: &mut [u8], end: &mut usize, said: Said) {
     let n = said.numbers;
     if said.letter == b'N' {
-        print_number(b" refused with ", n[0]);
-        print_number(b", line ", n[1]);
+        print_number(out, end, b" refused with ", n[0]);
+        print_number(out, end, b", line ", n[1]);
         return;
     }
     if said.letter == b'P' {
-        print_number(b" number ", n[0]);
+        print_number(out, end, b" number ", n[0]);
         return;
     }
-    print_figures(n);
-    print_number(b", row ", n[5]);
-    print_number(b", trail ", n[6]);
-    print_number(b", loop ", n[7]);
+    print_figures(out, end, n);
+    print_number(out, end, b", row ", n[5]);
+    print_number(out, end, b", trail ", n[6]);
+    print_number(out, end, b", loop ", n[7]);
 }
 
 fn verdict(number: usize, f: Figures) -> Said {
@@ -195,10 +225,10 @@ fn judge(lines: &[u32], steps: &mut [u16]) -> Said {
 }
 
 // Prints what an answer differs from, if it does.
-fn tell(right: bool, what: &[u8]) -> bool {
+fn tell(out: &mut [u8], end: &mut usize, right: bool, what: &[u8]) -> bool {
     if !right {
-        print(b", DIFFERS from ");
-        print(what);
+        print(out, end, b", DIFFERS from ");
+        print(out, end, what);
     }
     right
 }
@@ -226,11 +256,11 @@ fn same_figures(a: [usize; 8], b: [usize; 8]) -> bool {
     true
 }
 
-fn tell_figures(said: [usize; 8], chased: [usize; 8]) -> bool {
+fn tell_figures(out: &mut [u8], end: &mut usize, said: [usize; 8], chased: [usize; 8]) -> bool {
     let right = same_figures(said, chased);
     if !right {
-        print(b", DIFFERS from the chase:");
-        print_figures(chased);
+        print(out, end, b", DIFFERS from the chase:");
+        print_figures(out, end, chased);
     }
     right
 }
@@ -258,14 +288,14 @@ fn steps_right(lines: &[u32], values: &mut [[u32; 8]], steps: &[u16], n: [usize;
 }
 
 // Compares an answer with the chase: a verdict with all its numbers, refusal 11 with the count of shapes.
-fn compare(lines: &[u32], steps: &[u16], said: Said) -> bool {
+fn compare(out: &mut [u8], end: &mut usize, lines: &[u32], steps: &[u16], said: Said) -> bool {
     let mut records = room_for_entries();
     let mut values = room_for_values();
     let mut shapes = room_for_entries();
     let mut fired = room_for_entries();
     let rests = small_chase::chase(lines, &mut records, &mut values, &mut shapes, &mut fired);
     if said.letter == b'N' {
-        return tell(512 < table::size(&shapes), b"the chase");
+        return tell(out, end, 512 < table::size(&shapes), b"the chase");
     }
     let chased = found(
         rests,
@@ -275,8 +305,10 @@ fn compare(lines: &[u32], steps: &[u16], said: Said) -> bool {
         small_chase::share(lines, &fired),
     );
     let n = said.numbers;
-    let right = tell_figures(n, chased);
+    let right = tell_figures(out, end, n, chased);
     tell(
+        out,
+        end,
         steps_right(lines, &mut values, steps, n),
         b"what its steps must be",
     )
@@ -284,111 +316,121 @@ fn compare(lines: &[u32], steps: &[u16], said: Said) -> bool {
 }
 
 // Prints an answer, and whether it is the one that the head of its case gives.
-fn tell_answer(head: &[u8], said: Said) -> bool {
-    print_said(said);
-    tell(as_given(head, said), b"what is given")
+fn tell_answer(out: &mut [u8], end: &mut usize, head: &[u8], said: Said) -> bool {
+    print_said(out, end, said);
+    tell(out, end, as_given(head, said), b"what is given")
 }
 
 // Tries the judge on lent lines. A refusal other than 11 needs no chase.
-fn try_lines(head: &[u8], lines: &[u32], steps: &mut [u16]) -> bool {
+fn try_lines(
+    out: &mut [u8],
+    end: &mut usize,
+    head: &[u8],
+    lines: &[u32],
+    steps: &mut [u16],
+) -> bool {
     let said = judge(lines, steps);
-    let right = tell_answer(head, said);
+    let right = tell_answer(out, end, head, said);
     let n = said.numbers;
     if said.letter == b'N' {
         if n[0] != 11 {
             return right;
         }
     }
-    compare(lines, steps, said) & right
+    compare(out, end, lines, steps, said) & right
 }
 
 // Lends as many steps as the case says.
-fn lend_steps(head: &[u8], lines: &[u32]) -> bool {
+fn lend_steps(out: &mut [u8], end: &mut usize, head: &[u8], lines: &[u32]) -> bool {
     let mut steps = room_for_steps();
     let count = column_number(head, 10);
     if 4096 < count {
-        return tell(false, b"the form of a case");
+        return tell(out, end, false, b"the form of a case");
     }
     let lent = 5 * count;
-    try_lines(head, lines, &mut steps[0..lent])
+    try_lines(out, end, head, lines, &mut steps[0..lent])
 }
 
 // Tries a sheet's text.
-fn try_text(head: &[u8], text: &[u8]) -> bool {
+fn try_text(out: &mut [u8], end: &mut usize, head: &[u8], text: &[u8]) -> bool {
     let mut lines = room_for_lines();
     match sheet::read(text, &mut lines) {
         ReadAnswer::Lines(count) => {
             let used = 8 * count;
-            lend_steps(head, &lines[..used])
+            lend_steps(out, end, head, &lines[..used])
         }
         ReadAnswer::Refused(why) => {
             let said = sheet::refusal_numbers(why);
-            tell_answer(head, refusal(said.number as usize, said.line))
+            tell_answer(out, end, head, refusal(said.number as usize, said.line))
         }
     }
 }
 
-// Reads so many bytes, and says whether there are as many.
-fn read_text(text: &mut [u8], size: usize) -> bool {
-    if size <= text.len() {
-        return io::read_full(0, &mut text[0..size]) == size;
-    }
-    false
-}
-
 // Tries the first bytes of a text as a case's sheet.
-fn try_part(head: &[u8], text: &[u8], size: usize) -> bool {
+fn try_part(out: &mut [u8], end: &mut usize, head: &[u8], text: &[u8], size: usize) -> bool {
     if byte(head, 0) != b'C' {
-        return tell(false, b"the form of a case");
+        return tell(out, end, false, b"the form of a case");
     }
     if size <= text.len() {
-        return try_text(head, &text[0..size]);
+        let walked = lines::walks_right(&text[0..size]);
+        let walks = tell(out, end, walked, b"the lines of its text");
+        return try_text(out, end, head, &text[0..size]) & walks;
     }
-    tell(false, b"the form of a case")
+    tell(out, end, false, b"the form of a case")
 }
 
-// Reads the text of a case and tries it.
-fn try_case(head: &[u8]) -> bool {
-    let mut text = room_for_text();
-    let size = column_number(head, 1);
-    print_name(head);
-    if read_text(&mut text, size) {
-        return try_part(head, &text, size);
+// Tries the first case of the cases that are left.
+fn try_case(out: &mut [u8], end: &mut usize, cases: &[u8]) -> bool {
+    if cases.len() < 135 {
+        return tell(out, end, false, b"the form of a case");
     }
-    tell(false, b"the form of a case")
+    let head = &cases[0..135];
+    let text = &cases[135..];
+    print_name(out, end, head);
+    try_part(out, end, head, text, column_number(head, 1))
+}
+
+// How many bytes the case at `at` has, at most all that are left.
+fn case_size(cases: &[u8], at: usize) -> usize
+    requires { ⌜ at < length (now cases) ⌝ }
+    ensures { λ r. ⌜ (0 < r) × (at + r ≤ length (now (cases .entry))) ⌝ }
+{
+    let left = cases.len() - at;
+    let size = 135 + column_number(&cases[at..], 1) % 100000000;
+    if size < left {
+        return size;
+    }
+    left
 }
 
 // Ends the line of a case and counts it.
-fn count_case(tried: Tried, right: bool) -> Tried {
+fn count_case(out: &mut [u8], end: &mut usize, tried: Tried, right: bool) -> Tried {
     let cases = table::one_more(tried.cases);
     if right {
-        print(b", as it must be\n");
+        print(out, end, b", as it must be\n");
         return Tried {
             cases,
             differ: tried.differ,
         };
     }
-    print(b"\n");
+    print(out, end, b"\n");
     Tried {
         cases,
         differ: table::one_more(tried.differ),
     }
 }
 
-// Tries all cases of standard input, 1,000 at most.
-fn try_cases() -> Tried {
+// Tries all cases.
+fn try_cases(out: &mut [u8], end: &mut usize, cases: &[u8]) -> Tried {
     let mut tried = Tried {
         cases: 0,
         differ: 0,
     };
-    let mut k: usize = 0;
-    while k < 1000 {
-        let mut head = [0u8; 135];
-        if io::read_full(0, &mut head) != 135 {
-            return tried;
-        }
-        tried = count_case(tried, try_case(&head));
-        k += 1;
+    let mut at: usize = 0;
+    while at < cases.len() {
+        let right = try_case(out, end, &cases[at..]);
+        tried = count_case(out, end, tried, right);
+        at += case_size(cases, at);
     }
     tried
 }
@@ -404,30 +446,76 @@ fn pattern(numbers: &[u32]) -> Said {
     }
 }
 
-fn try_pattern(name: &[u8], numbers: &[u32], letter: u8, number: usize) -> bool {
+fn try_pattern(
+    out: &mut [u8],
+    end: &mut usize,
+    name: &[u8],
+    numbers: &[u32],
+    letter: u8,
+    number: usize,
+) -> bool {
     let said = pattern(numbers);
     let n = said.numbers;
-    print(name);
-    print_said(said);
-    tell((said.letter == letter) & (n[0] == number), b"what is given")
+    print(out, end, name);
+    print_said(out, end, said);
+    tell(
+        out,
+        end,
+        (said.letter == letter) & (n[0] == number),
+        b"what is given",
+    )
 }
 
-fn main() {
-    let sheets = try_cases();
+fn try_patterns(out: &mut [u8], end: &mut usize, sheets: Tried) -> Tried {
     let same = try_pattern(
+        out,
+        end,
         b"pattern of (0, 0)                       ",
         &[0, 0],
         b'P',
         2,
     );
-    let more = count_case(sheets, same);
-    let none = try_pattern(b"pattern of no number                    ", &[], b'N', 10);
-    let all = count_case(more, none);
-    print_number(b"", all.cases);
+    let more = count_case(out, end, sheets, same);
+    let none = try_pattern(
+        out,
+        end,
+        b"pattern of no number                    ",
+        &[],
+        b'N',
+        10,
+    );
+    count_case(out, end, more, none)
+}
+
+// Prints how many cases were tried, and how many of them differ.
+fn print_tried(out: &mut [u8], end: &mut usize, all: Tried) {
+    print_number(out, end, b"", all.cases);
     if all.differ == 0 {
-        print(b" cases, all match\n");
+        print(out, end, b" cases, all match\n");
     } else {
-        print_number(b" cases, ", all.differ);
-        print(b" DIFFER\n");
+        print_number(out, end, b" cases, ", all.differ);
+        print(out, end, b" DIFFER\n");
+    }
+}
+
+// Tries all cases and prints what is found.
+fn print_cases(cases: &[u8]) {
+    let mut out = room_for_output();
+    let mut end: usize = 0;
+    let sheets = try_cases(&mut out, &mut end, cases);
+    let all = try_patterns(&mut out, &mut end, sheets);
+    print_tried(&mut out, &mut end, all);
+    if end <= 65536 {
+        console::print(&out[..end]);
+    }
+}
+
+fn main() {
+    let mut cases = room_for_input();
+    let usage =
+        b"usage: cases [FILE]\nTries the cases in FILE, or in standard input where FILE is - or none is named.\n";
+    match console::read_input(usage, &mut cases) {
+        Input::Text(size) => print_cases(&cases[..size]),
+        Input::Nothing => {}
     }
 }

@@ -38,23 +38,15 @@ fn wide16(x: u16) -> usize {
     x as usize
 }
 
-// Number `i` of step `k`; 0 past the end.
-fn step_number(steps: &[u16], k: usize, i: usize) -> usize {
-    if k < steps.len() / 5 {
-        if i < 5 {
-            return wide16(steps[5 * k + i]);
-        }
-    }
-    0
-}
-
+// Step `k`, counted from 0, as the layer of step records shows it; all zeros past the end.
 fn step_at(steps: &[u16], k: usize) -> Step {
+    let shown = steps::shown_at(steps, k);
     Step {
-        rule: step_number(steps, k, 0),
-        head: step_number(steps, k, 1),
-        from: step_number(steps, k, 2),
-        to: step_number(steps, k, 3),
-        fresh: step_number(steps, k, 4),
+        rule: wide16(shown.rule),
+        head: wide16(shown.head),
+        from: wide16(shown.from),
+        to: wide16(shown.to),
+        fresh: wide16(shown.fresh),
     }
 }
 
@@ -386,7 +378,8 @@ pub(crate) fn endless_right(
     if !way_right(met, trail, going) {
         return false;
     }
-    let from = place(step_number(steps, trail, 2));
+    let first_step = step_at(steps, trail);
+    let from = place(first_step.from);
     if from == 0 {
         return false;
     }

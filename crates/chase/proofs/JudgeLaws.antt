@@ -50,10 +50,10 @@ module _ (limit : ℕ) (numbers before : List ℕ) where
         subst (λ (ls : List Line). Says (rulesOf ls) (rowsOf ls) (v .verdict) (v .deepest)) same-lines
         (answer-says (rulesOf (r .lines)) (rowsOf (r .lines)) v (take (v .trail) (r .steps)) (drop (v .trail) (r .steps)) (r .answer))
 
-    right-shapes : Count (Reached (rulesOf lines) (rowsOf lines)) (v .shapes)
+    pub right-shapes : Count (Reached (rulesOf lines) (rowsOf lines)) (v .shapes)
     right-shapes = subst (λ (ls : List Line). Count (Reached (rulesOf ls) (rowsOf ls)) (v .shapes)) same-lines (r .shapes)
 
-    right-fired : Count (Fired (rulesOf lines) (rowsOf lines)) (v .fired)
+    pub right-fired : Count (Fired (rulesOf lines) (rowsOf lines)) (v .fired)
     right-fired = subst (λ (ls : List Line). Count (Fired (rulesOf ls) (rowsOf ls)) (v .fired)) same-lines (r .fired)
 
     right-share : v .share ≡ share (v .fired) (length (rulesOf lines))

@@ -1,9 +1,10 @@
--- The pages for a reader are Generations, Theorems, CaseTheorem and Errors; the others are the laws that the proofs rest on.
+-- The pages for a reader are Generations, Theorems, Derivations, CaseTheorem, Errors and Numbering; the others are the laws that the proofs rest on.
 pub mod Generations
 pub mod ListLaws
 pub mod MakingLaws
 pub mod ShapeLaws
 pub mod RunLaws
+pub mod HomomorphismLaws
 pub mod PublishedLaws
 pub mod StepLaws
 pub mod BoundLaws
@@ -13,6 +14,10 @@ pub mod CertificateLaws
 pub mod CountLaws
 pub mod AgreeLaws
 pub mod FiniteLaws
+pub mod SequenceLaws
+pub mod DepthLaws
+pub mod QueueLaws
+pub mod DerivationLaws
 pub mod JudgeLaws
 pub mod Decisions
 pub mod Goings
@@ -21,5 +26,7 @@ pub mod LoopCheck
 pub mod LoopSearch
 pub mod CaseCheck
 pub mod Theorems
+pub mod Derivations
 pub mod CaseTheorem
 pub mod Errors
+pub mod Numbering

@@ -9,9 +9,9 @@ use Rattle.sheet.specs.Line.{Line}
 use Rattle.patterns.specs.Outcome.{good}
 use Rattle.chase.specs.Lists.{In}
 use Rattle.sheet.specs.Write.{sheetHeld}
-use Rattle.chase.specs.Rules.{Rule, rulesOf, nth}
+use Rattle.chase.specs.Rules.{Head, Rule, rulesOf, nth}
 use Rattle.chase.specs.Value.{Value, table, generation}
-use Rattle.chase.specs.Making.{Record, Agree, freshOf}
+use Rattle.chase.specs.Making.{Record, Agree, carriedValues, Fires, freshOf, made}
 use Rattle.chase.specs.Run.{Firing, rowsOf, start, fire, run, Fits, AllFit, Reachable}
 use Rattle.chase.specs.Shape.{Shape, Reached, Fired}
 use Rattle.chase.specs.Counting.{NoTwo, Count}
@@ -20,7 +20,7 @@ use Rattle.chase.specs.Simplification.{Derived, Counts}
 use Rattle.chase.specs.Judge.{Verdict, Judgement, judged, refuses, Left, Bounded, Unbounded, JudgeMeets}
 use Rattle.chase.proofs.MakingLaws.{agree-length}
 use Rattle.chase.proofs.ShapeLaws.{freshOf-injective, derived-reached, reached-derived, counts-fired, fired-counts}
-use Rattle.chase.proofs.RunLaws.{start-noTwo, fire-unfit, run-noTwo, run-reachable, reachable-run}
+use Rattle.chase.proofs.RunLaws.{start-noTwo, fire-unfit, run-noTwo, same-carried-made, nothing-more, run-reachable, reachable-run}
 use Rattle.chase.proofs.PublishedLaws.{chase-reachable, reachable-chase, finite-reachable, reachable-finite, fair-reachable, reachable-fair}
 use Rattle.chase.proofs.CountLaws.{count-iff, fired-below}
 use Rattle.chase.proofs.AgreeLaws.{agree-places, places-agree}
@@ -37,6 +37,11 @@ fresh-fixed n m k l cs ds = (freshOf-injective n m k l cs ds, λ s. let (p, q, r
 -- A fresh number equals no table value.
 pub fresh-not-table : (n m k : ℕ) (cs : List Value) → freshOf n m cs ≡ table k → ⊥
 fresh-not-table n m k cs e = false≢true cc
+
+-- Where a rule fires on two records with the same carried values, each of its H lines makes the same record of both.
+pub same-carried-same-made : (n : ℕ) (r : Rule) (x y : Record) → Fires r x → Fires r y → carriedValues r (x .fields) ≡ carriedValues r (y .fields)
+    → (h : Head) → In h (r .heads) → made n r x h ≡ made n r y h
+same-carried-same-made = same-carried-made
 
 -- FIRING
 
@@ -76,6 +81,12 @@ pub misfit-changes-nothing : (rules : List Rule) (f : Firing) (firings : List Fi
 misfit-changes-nothing rules f firings records h =
     let e = fire-unfit rules f records h in
     (e, ap (run rules firings) e)
+
+-- A firing with the rule and the carried values of an earlier one that fitted makes nothing more, whatever came between.
+pub same-carried-nothing-more : (rules : List Rule) (f g : Firing) (records : List Record) (between : List Firing) (w : Fits rules f records)
+    → f .rule ≡ g .rule → carriedValues (w .rule) (f .on .fields) ≡ carriedValues (w .rule) (g .on .fields)
+    → fire rules g (run rules between (fire rules f records)) ≡ run rules between (fire rules f records)
+same-carried-nothing-more = nothing-more
 
 -- THE PUBLISHED CHASE
 

@@ -1,15 +1,16 @@
 -- The laws of columns: a column has nine bytes, a number's column is read as the number, and nothing else is read as it. Assumes nothing.
-use mathlib.Core.Path.{_≡_, refl, _∙_}
-use mathlib.Core.Bool.{Bool, true, false, cond, _&&_, and-eq-true-iff}
+use mathlib.Core.Path.{_≡_, refl, ap, _∙_}
+use mathlib.Core.Bool.{Bool, true, false, cond, _&&_, and-eq-true-iff, false≢true}
 use mathlib.Core.List.{List, [], _∷_, _++_}
 use mathlib.Core.Option.{Option, none, some}
 use Prim.Native.Nat.{ℕ, zero, suc, _+_, _-_, _*_, _/_, _%_, _^_, _≤_, _<_}
 use native.Mathlib.Nat.{add-sub-cancel-left, div-add-mod, pow-suc}
 use native.Mathlib.Omega.{arith}
 use lib.Dec.{eqb, leb}
-use lib.ListN.{length, length-append}
+use lib.ListN.{length, replicate, length-append}
 use borrow.Author.Tests.{le-leb, eq-eqb, eqb-true, leb-true}
-use Rattle.columns.specs.Column.{largestNumber, placeByte, places, column, decimal, same, numberIn}
+use Rattle.patterns.specs.Outcome.{good, refused}
+use Rattle.columns.specs.Column.{largestNumber, placeByte, places, column, columnFor, decimal, same, numberIn, inForm}
 
 pub length-places : (w n : ℕ) → length (places w n) ≡ w
 length-places zero n = refl
@@ -85,3 +86,35 @@ numberIn-none bytes h = none-or-some (numberIn bytes) (λ n e. let is = numberIn
 pub placeByte-nonzero : (n : ℕ) → (n ≡ 0 → ⊥) → 48 + n % 10 ≡ placeByte n
 placeByte-nonzero zero h = absurd (h refl)
 placeByte-nonzero (suc n) h = refl
+
+-- What was read, from what is said of it.
+pub inForm-some : {A : Type 0} (o : Option A) (a : A) → inForm o ≡ good a → o ≡ some a
+inForm-some none a e = absurd (false≢true cc)
+inForm-some (some b) a e = cc
+
+pub inForm-none : {A : Type 0} (o : Option A) → inForm o ≡ refused 2 0 → o ≡ none
+inForm-none none e = refl
+inForm-none (some a) e = absurd (false≢true cc)
+
+pub columnFor-fits : (n : ℕ) → n ≤ largestNumber → columnFor n ≡ column n
+columnFor-fits n h = rw (le-leb n largestNumber h)
+
+pub length-columnFor : (n : ℕ) → length (columnFor n) ≡ 9
+length-columnFor n = by-size (leb n largestNumber)
+  where
+    by-size : (t : Bool) → length (cond t (column n) (replicate 9 32)) ≡ 9
+    by-size true = length-column n
+    by-size false = refl
+
+-- Nine blanks are no number's column.
+blanks-read : numberIn (replicate 9 32) ≡ none
+unfolding numberIn column
+blanks-read = refl
+
+-- What `column` answers is read as the number; for a number over the largest there is nothing to read.
+pub columnFor-read : (n : ℕ) → inForm (numberIn (columnFor n)) ≡ cond (leb n largestNumber) (good n) (refused 2 0)
+columnFor-read n = by-size (leb n largestNumber) refl
+  where
+    by-size : (t : Bool) → leb n largestNumber ≡ t → inForm (numberIn (cond t (column n) (replicate 9 32))) ≡ cond t (good n) (refused 2 0)
+    by-size true e = ap inForm (numberIn-column n (leb-true n largestNumber e))
+    by-size false e = ap inForm blanks-read

@@ -4,6 +4,8 @@ use mathlib.Core.List.{List, [], _∷_, _++_}
 use mathlib.Core.Option.{Option, none, some}
 use Prim.Native.Nat.{ℕ, zero, suc, _+_, _-_, _*_, _/_, _%_}
 use lib.Dec.{eqb, leb}
+use lib.ListN.{replicate}
+use Rattle.patterns.specs.Outcome.{Outcome, good, refused}
 use Rattle.columns.specs.declared.Number.{Number}
 use Rattle.columns.specs.declared.Number.the-variants.{Is, NotOne}
 
@@ -21,9 +23,13 @@ abbrev pub places : ℕ → ℕ → List ℕ
 places zero n = []
 places (suc w) n = places w (n / 10) ++ (placeByte n ∷ [])
 
--- The column of n. Its last place holds a digit, 0 too.
+-- The column of n, a number up to the largest. Its last place holds a digit, 0 too.
 unfoldable pub column : ℕ → List ℕ
 column n = places 8 (n / 10) ++ ((48 + (n % 10)) ∷ [])
+
+-- What `column` answers: the column of n; nine blanks where n is over the largest number.
+abbrev pub columnFor : ℕ → List ℕ
+columnFor n = cond (leb n largestNumber) (column n) (replicate 9 32)
 
 -- The decimal number that bytes show after the digits of n. A blank is below the byte of 0, so it counts as 0.
 abbrev pub decimal : ℕ → List ℕ → ℕ
@@ -42,6 +48,12 @@ unfoldable pub numberIn : List ℕ → Option ℕ
 numberIn bytes =
     cond (leb (decimal 0 bytes) largestNumber && same (column (decimal 0 bytes)) bytes) (some (decimal 0 bytes)) none
 
-abbrev pub numberSays : Number → Option ℕ
-numberSays (Is n) = some n
-numberSays NotOne = none
+-- What is read as an answer: 2, not in the form, where there is nothing; no line is named.
+abbrev pub inForm : {A : Type 0} → Option A → Outcome A
+inForm none = refused 2 0
+inForm (some a) = good a
+
+-- Document 01's numbers for each answer.
+abbrev pub numberSays : Number → Outcome ℕ
+numberSays (Is n) = good n
+numberSays NotOne = refused 2 0

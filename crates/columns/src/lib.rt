@@ -2,11 +2,12 @@
 ghost use mathlib.Core.Path.{_≡_};
 ghost use Prim.Native.Nat.{_+_, _≤_};
 ghost use lib.ListN.{length, take, drop};
-ghost use Rattle.columns.specs.Column.{placeByte, column as columnOf, numberIn, numberSays};
+ghost use Rattle.columns.specs.Column.{placeByte, column as columnOf, columnFor, inForm, numberIn, numberSays};
 
 // What nine bytes are read as.
 pub enum Number {
     Is(u32),
+    // They are no number's column.
     NotOne,
 }
 
@@ -20,8 +21,8 @@ fn place(rest: u32) -> u8
     48 + (rest % 10) as u8
 }
 
-// The column of `n`: its digits right-justified in nine places, blanks before them.
-pub fn column(n: u32) -> [u8; 9]
+// The digits of `n` right-justified in nine places, blanks before them.
+fn digits(n: u32) -> [u8; 9]
     ensures { λ r. ⌜ r ≡ columnOf n ⌝ }
 {
     let n1 = n / 10;
@@ -46,6 +47,16 @@ pub fn column(n: u32) -> [u8; 9]
     ]
 }
 
+// The column of `n`; nine blanks, which are no number's column, where `n` is over 99,999,999.
+pub fn column(n: u32) -> [u8; 9]
+    ensures { λ r. ⌜ r ≡ columnFor n ⌝ }
+{
+    if 99999999 < n {
+        return [b' '; 9];
+    }
+    digits(n)
+}
+
 fn wide(b: u8) -> u32
     ensures { λ r. ⌜ r ≡ b ⌝ }
 {
@@ -55,7 +66,7 @@ fn wide(b: u8) -> u32
 // The number whose column the nine bytes at `at` are, where there are nine.
 fn read_column(s: &[u8], at: usize) -> Number
     requires { ⌜ at + 9 ≤ length (now s) ⌝ }
-    ensures { λ r. ⌜ numberSays r ≡ numberIn (take 9 (drop at (now (s .entry)))) ⌝ }
+    ensures { λ r. ⌜ numberSays r ≡ inForm (numberIn (take 9 (drop at (now (s .entry))))) ⌝ }
 {
     if s[at] != b' ' {
         return Number::NotOne;
@@ -94,7 +105,7 @@ fn read_column(s: &[u8], at: usize) -> Number
 
 // The number whose column the nine bytes at `at` are.
 pub fn number_at(s: &[u8], at: usize) -> Number
-    ensures { λ r. ⌜ numberSays r ≡ numberIn (take 9 (drop at (now (s .entry)))) ⌝ }
+    ensures { λ r. ⌜ numberSays r ≡ inForm (numberIn (take 9 (drop at (now (s .entry))))) ⌝ }
 {
     if s.len() < 9 {
         return Number::NotOne;

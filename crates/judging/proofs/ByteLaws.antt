@@ -11,8 +11,8 @@ use lib.ListN.{length, getD, take, drop, length-drop}
 use lib.Seq.{drop-cons, getD-drop}
 use Rattle.chase.specs.Lists.{All}
 use Rattle.chase.specs.Rules.{Head, Rule}
-use Rattle.judging.specs.Table.{headsIn, ruleIn, later, firstPlace, sourceAt, MarksFit, HeadFits, RuleFits, BytesFit}
-use Rattle.judging.specs.Bytes.{front, marksAt, headsAt, LineIn, lineByte, headByte, byteOf}
+use Rattle.judging.specs.inner.Table.{headsIn, ruleIn, later, firstPlace, sourceAt, MarksFit, HeadFits, RuleFits, BytesFit}
+use Rattle.judging.specs.inner.Bytes.{front, marksAt, headsAt, LineIn, lineByte, headByte, byteOf}
 
 -- ---- the marks of a line, from the front
 

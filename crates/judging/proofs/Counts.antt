@@ -22,8 +22,8 @@ use Rattle.chase.specs.Certificate.{asRecord}
 use Rattle.chase.proofs.ListLaws.{in-map, map-in}
 use Rattle.chase.proofs.StepLaws.{nth-in}
 use Rattle.chase.proofs.ShapeLaws.{pattern-map, fires-applies, applies-fires, made-digits, derived-reached}
-use Rattle.judging.specs.Codes.{ShapeFits, shapeFrom}
-use Rattle.judging.specs.Found.{shapeNo, Has, Via, viaRow, viaRule, Kept, Whole, FiredMarks, onesIn}
+use Rattle.judging.specs.inner.Codes.{ShapeFits, shapeFrom}
+use Rattle.judging.specs.inner.Found.{shapeNo, Has, Via, viaRow, viaRule, Kept, Whole, FiredMarks, onesIn}
 use Rattle.judging.proofs.PatternPlaces.{shapeAt-one}
 use Rattle.judging.proofs.Places.{below, below-length, below-in, in-below, noTwo-below, nth-below}
 

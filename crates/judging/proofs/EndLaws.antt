@@ -5,8 +5,8 @@ use Prim.Native.Nat.{ℕ, zero, suc, _+_, _-_, _≤_, _<_}
 use native.Mathlib.Omega.{arith}
 use native.Mathlib.Nat.{eq-or-lt-of-le}
 use native.Mathlib.Decide.{ℕ-discrete}
-use Rattle.judging.specs.Nodes.{back, weight, freshBack, Stable, Turn, Line}
-use Rattle.judging.specs.Passes.{Timed, Long}
+use Rattle.judging.specs.inner.Nodes.{back, weight, freshBack, Stable, Turn, Line}
+use Rattle.judging.specs.inner.Passes.{Timed, Long}
 use Rattle.judging.proofs.PigeonLaws.{Twice, twice}
 
 -- Links join nodes below n.

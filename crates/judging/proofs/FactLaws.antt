@@ -16,12 +16,12 @@ use Rattle.chase.specs.Counting.{Count}
 use Rattle.chase.specs.Steps.{Step, Fresh, FreshAlone, Moves, lastFresh}
 use Rattle.chase.specs.Certificate.{asRecord, shapeAfter, EachShape, lastShape, largest, deepestOf, ClosedList, WayOn, LoopOn, LineOn, freshSteps}
 use Rattle.chase.proofs.StepLaws.{lastShape-append, lastFresh-append, freshSteps-append}
-use Rattle.judging.specs.Codes.{shapeAt, codeOf}
-use Rattle.judging.specs.Found.{shapeNo, Via, viaRow, viaRule, Kept, Whole, onesIn}
-use Rattle.judging.specs.Nodes.{at, back, weight, Stable, Turn, Line}
-use Rattle.judging.specs.Links.{Link, Closed}
-use Rattle.judging.specs.Written.{lineTo, wayBack, wayTo, Falls, WayLength, StaysBelow, Deepest, InTurn, TurnLength, InLine, LineLength}
-use Rattle.judging.specs.Facts.{Facts}
+use Rattle.judging.specs.inner.Codes.{shapeAt, codeOf}
+use Rattle.judging.specs.inner.Found.{shapeNo, Via, viaRow, viaRule, Kept, Whole, onesIn}
+use Rattle.judging.specs.inner.Nodes.{at, back, weight, Stable, Turn, Line}
+use Rattle.judging.specs.inner.Links.{Link, Closed}
+use Rattle.judging.specs.inner.Written.{lineTo, wayBack, wayTo, Falls, WayLength, StaysBelow, Deepest, InTurn, TurnLength, InLine, LineLength}
+use Rattle.judging.specs.inner.Facts.{Facts}
 use Rattle.judging.proofs.Counts.{place-one, shapes-counted, fired-counted}
 use Rattle.judging.proofs.Ways.{WayFrom, way-on}
 use Rattle.judging.proofs.ListOf.{listOf, closed-list, number-listed, listed-number}

@@ -7,11 +7,11 @@ use native.Mathlib.Decide.{ℕ-discrete}
 use native.Mathlib.Omega.{arith}
 use lib.ListN.{length, getD, set, length-set}
 use lib.Seq.{getD-set-same, getD-set-other}
-use Rattle.judging.specs.Table.{rowBytes, TableFits}
-use Rattle.judging.specs.Firing.{kindByte}
-use Rattle.judging.specs.Nodes.{Zeros}
-use Rattle.judging.specs.Passes.{Rests, FieldE, carriedE, freshE, EachE}
-use Rattle.judging.specs.Fresh.{HeadFresh, RuleFresh, FreshKinds, FirstWaiting}
+use Rattle.judging.specs.inner.Table.{rowBytes, TableFits}
+use Rattle.judging.specs.inner.Firing.{kindByte}
+use Rattle.judging.specs.inner.Nodes.{Zeros}
+use Rattle.judging.specs.inner.Passes.{Rests, FieldE, carriedE, freshE, EachE}
+use Rattle.judging.specs.inner.Fresh.{HeadFresh, RuleFresh, FreshKinds, FirstWaiting}
 use Rattle.judging.proofs.GraphLaws.{shape-own}
 use Rattle.judging.proofs.RuleLaws.{rule-kind}
 use Rattle.judging.proofs.SearchLaws.{kind-of}

@@ -18,11 +18,11 @@ use Rattle.chase.specs.Simplification.{Applies}
 use Rattle.chase.proofs.CountLaws.{element-below}
 use Rattle.chase.proofs.MakingLaws.{makes-length}
 use Rattle.chase.proofs.StepLaws.{element-in}
-use Rattle.judging.specs.Table.{rowBytes, ruleIn, tableRules, firstPlace, later, TableFits}
-use Rattle.judging.specs.Codes.{shapeAt, codeOf, shapeFrom, newDigit, ShapeFits}
-use Rattle.judging.specs.Found.{shapeNo}
-use Rattle.judging.specs.Links.{Begins, carried, new, Link, Closed}
-use Rattle.judging.specs.Passes.{FieldE, carriedE, freshE, ShapeE, EachE, Onward, placeOf}
+use Rattle.judging.specs.inner.Table.{rowBytes, ruleIn, tableRules, firstPlace, later, TableFits}
+use Rattle.judging.specs.inner.Codes.{shapeAt, codeOf, shapeFrom, newDigit, ShapeFits}
+use Rattle.judging.specs.inner.Found.{shapeNo}
+use Rattle.judging.specs.inner.Links.{Begins, carried, new, Link, Closed}
+use Rattle.judging.specs.inner.Passes.{FieldE, carriedE, freshE, ShapeE, EachE, Onward, placeOf}
 use Rattle.judging.proofs.CodeLaws.{code-of-shape, shape-of-code, pattern-fits}
 use Rattle.judging.proofs.RuleLaws.{headAt, head-nth, head-count, head-fits, row-size}
 use Rattle.judging.proofs.LinkLaws.{width-is, width-few, mark-is, place-is, place-few}

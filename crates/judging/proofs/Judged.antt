@@ -12,14 +12,14 @@ use Rattle.chase.specs.Counting.{share}
 use Rattle.chase.specs.Judge.{judged, refuses, JudgeMeets, shapeLimit, short, wrong}
 use Rattle.judging.specs.declared.JudgeAnswer.{JudgeAnswer}
 use Rattle.judging.specs.Answer.{judgeSays, verdictOf}
-use Rattle.judging.specs.Table.{SheetHeld, FirstWrong, linesIn, rulesIn, rowsIn, tableRules, TableFits}
-use Rattle.judging.specs.Found.{onesIn, Searched}
-use Rattle.judging.specs.Nodes.{at, back, Zeros}
-use Rattle.judging.specs.Links.{Closed, Spreads}
-use Rattle.judging.specs.Written.{Deepest, InTurn}
-use Rattle.judging.specs.Trails.{Lent}
-use Rattle.judging.specs.Facts.{Facts}
-use Rattle.judging.specs.Judged.{Known, SaysEndless, Lines, SaysSettled}
+use Rattle.judging.specs.inner.Table.{SheetHeld, FirstWrong, linesIn, rulesIn, rowsIn, tableRules, TableFits}
+use Rattle.judging.specs.inner.Found.{onesIn, Searched}
+use Rattle.judging.specs.inner.Nodes.{at, back, Zeros}
+use Rattle.judging.specs.inner.Links.{Closed, Spreads}
+use Rattle.judging.specs.inner.Written.{Deepest, InTurn}
+use Rattle.judging.specs.inner.Trails.{Lent}
+use Rattle.judging.specs.inner.Facts.{Facts}
+use Rattle.judging.specs.inner.Judged.{Known, SaysEndless, Lines, SaysSettled}
 use Rattle.judging.proofs.CodeLaws.{code-of-shape}
 use Rattle.judging.proofs.SheetLaws.{rules-fit, held-lines}
 use Rattle.judging.proofs.FoundLaws.{zeros, zero-at}

@@ -8,9 +8,9 @@ use native.Mathlib.Decide.{ℕ-discrete, decLt}
 use native.Mathlib.Omega.{arith}
 use lib.ListN.{length, getD, set}
 use Rattle.chase.specs.Simplification.{Applies}
-use Rattle.judging.specs.Table.{ruleIn, rowBytes, TableFits}
-use Rattle.judging.specs.Codes.{shapeAt, FiresOn}
-use Rattle.judging.specs.Firing.{kindByte, NextOf, ByKind, Place, NextFire}
+use Rattle.judging.specs.inner.Table.{ruleIn, rowBytes, TableFits}
+use Rattle.judging.specs.inner.Codes.{shapeAt, FiresOn}
+use Rattle.judging.specs.inner.Firing.{kindByte, NextOf, ByKind, Place, NextFire}
 use Rattle.judging.proofs.PartLaws.{set-two, set-first, set-second, length-two}
 use Rattle.judging.proofs.RuleLaws.{rule-kind, row-fits, other-kind}
 

@@ -15,6 +15,7 @@ pub mod LinkSteps
 pub mod ListOf
 pub mod NodeLaws
 pub mod NoteLaws
+pub mod OrderLaws
 pub mod PartLaws
 pub mod PassLaws
 pub mod PatternPlaces

@@ -4,8 +4,8 @@ use mathlib.Core.List.{List}
 use Prim.Native.Nat.{ℕ, _+_, _-_, _*_, _≤_, _<_}
 use native.Mathlib.Omega.{arith}
 use lib.ListN.{length, getD}
-use Rattle.judging.specs.Table.{ruleIn, firstPlace, BytesFit}
-use Rattle.judging.specs.Passes.{LineBytes, Done, Just, Upto, FreshE, FieldE, carriedE, freshE, placeOf}
+use Rattle.judging.specs.inner.Table.{ruleIn, firstPlace, BytesFit}
+use Rattle.judging.specs.inner.Passes.{LineBytes, Done, Just, Upto, FreshE, FieldE, carriedE, freshE, placeOf}
 use Rattle.judging.proofs.RuleLaws.{headAt, head-below, head-width, head-mark, head-fits, mark-range, firstPlace-le}
 use Rattle.judging.proofs.PassLaws.{alike}
 

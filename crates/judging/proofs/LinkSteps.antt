@@ -16,11 +16,11 @@ use Rattle.chase.proofs.ListLaws.{all-in}
 use Rattle.chase.proofs.MakingLaws.{agree-has-value, carried-in, carried-has-value}
 use Rattle.chase.proofs.ShapeLaws.{applies-as-record}
 use Rattle.chase.proofs.StepLaws.{nth-in, carried-on-shape, fresh-on-shape}
-use Rattle.judging.specs.Table.{HeadFits, RuleFits}
-use Rattle.judging.specs.Codes.{ShapeFits}
-use Rattle.judging.specs.Found.{shapeNo}
-use Rattle.judging.specs.Links.{Link, Begins, carried, new}
-use Rattle.judging.specs.Written.{linkStep}
+use Rattle.judging.specs.inner.Table.{HeadFits, RuleFits}
+use Rattle.judging.specs.inner.Codes.{ShapeFits}
+use Rattle.judging.specs.inner.Found.{shapeNo}
+use Rattle.judging.specs.inner.Links.{Link, Begins, carried, new}
+use Rattle.judging.specs.inner.Written.{linkStep}
 use Rattle.judging.proofs.Places.{nth-below}
 use Rattle.judging.proofs.Counts.{fits-as-record}
 use Rattle.judging.proofs.Ways.{goes-to}

@@ -19,11 +19,11 @@ use Rattle.chase.proofs.MakingLaws.{mark-has-value, no-mark-no-value, agree-len
 use Rattle.chase.proofs.ShapeLaws.{as-record-applies, shapeMade-digits}
 use Rattle.chase.proofs.StepLaws.{nth-in}
 use Rattle.chase.proofs.BoundLaws.{largest-deepest}
-use Rattle.judging.specs.Table.{RuleFits, firstPlace}
-use Rattle.judging.specs.Codes.{ShapeFits, shapeFrom, newDigit}
-use Rattle.judging.specs.Found.{shapeNo, Kept, Whole}
-use Rattle.judging.specs.Nodes.{at, weight, Stable}
-use Rattle.judging.specs.Links.{Link, Begins, carried, new}
+use Rattle.judging.specs.inner.Table.{RuleFits, firstPlace}
+use Rattle.judging.specs.inner.Codes.{ShapeFits, shapeFrom, newDigit}
+use Rattle.judging.specs.inner.Found.{shapeNo, Kept, Whole}
+use Rattle.judging.specs.inner.Nodes.{at, weight, Stable}
+use Rattle.judging.specs.inner.Links.{Link, Begins, carried, new}
 use Rattle.judging.proofs.Places.{below, below-in, in-below, nth-below, in-nth}
 use Rattle.judging.proofs.Counts.{fits-as-record}
 use Rattle.judging.proofs.Sources.{first-within, first-value, no-source, carried-source}

@@ -7,8 +7,8 @@ use native.Mathlib.Omega.{arith}
 use native.Mathlib.Decide.{ℕ-discrete}
 use lib.ListN.{length, getD, set, length-set}
 use lib.Seq.{getD-set-same, getD-set-other}
-use Rattle.judging.specs.Nodes.{at, put, Grid}
-use Rattle.judging.specs.Passes.{sumTo}
+use Rattle.judging.specs.inner.Nodes.{at, put, Grid}
+use Rattle.judging.specs.inner.Passes.{sumTo}
 
 -- The node of field p of shape s.
 module _ (s p : ℕ) (low : p < 7) where

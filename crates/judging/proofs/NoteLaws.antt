@@ -11,11 +11,11 @@ use lib.Seq.{getD-set-same, getD-set-other}
 use Rattle.chase.specs.Rules.{Head, Rule, nth}
 use Rattle.chase.specs.Making.{Record}
 use Rattle.chase.specs.Simplification.{Applies}
-use Rattle.judging.specs.Table.{rowBytes, ruleIn, TableFits}
-use Rattle.judging.specs.Codes.{shapeAt, codeOf, shapeFrom, MadeOf}
-use Rattle.judging.specs.Passes.{Live, Done, Upto, HeadE, MadeE, RuleE, ShapeE, Onward}
-use Rattle.judging.specs.Noted.{WrittenAt, NoteIs, Notes, ShapeNotes, Noted, ruleOf, lineOf, NoteFits, NotesE}
-use Rattle.judging.specs.Firing.{NextFire}
+use Rattle.judging.specs.inner.Table.{rowBytes, ruleIn, TableFits}
+use Rattle.judging.specs.inner.Codes.{shapeAt, codeOf, shapeFrom, MadeOf}
+use Rattle.judging.specs.inner.Passes.{Live, Done, Upto, HeadE, MadeE, RuleE, ShapeE, Onward}
+use Rattle.judging.specs.inner.Noted.{WrittenAt, NoteIs, Notes, ShapeNotes, Noted, ruleOf, lineOf, NoteFits, NotesE}
+use Rattle.judging.specs.inner.Firing.{NextFire}
 use Rattle.judging.proofs.FoundLaws.{old, room-of}
 use Rattle.judging.proofs.SearchLaws.{heads-length, Trying, fires-no, Heading, heading-below}
 use Rattle.judging.proofs.RuleLaws.{headAt, head-nth, row-size}
@@ -151,7 +151,6 @@ notes-along :
 notes-along {r = r} f e x =
     rw e (record {
       begun = x .begun;
-      within = x .within;
       sound = λ k a b. let y = x .sound k a b in (y .0, (y .1 .0, f k (y .0) (y .1 .0) b (y .1 .1)));
       before = λ i j a b c. let y = x .before i j a b c in (y .0, y .1, y .2, f (y .0) i j (y .2) (y .3));
       here = λ j a. let y = x .here j a in (y .0, y .1, y .2, f (y .0) r j (y .2) (y .3));
@@ -193,13 +192,12 @@ note-written {firings = firings} {targets = targets} {k = k} m link target low x
 
 -- A note of the next H line stands at the end.
 notes-more :
-    {table : List ℕ} {rules : ℕ} {index firings targets : List ℕ} {code first end r h : ℕ} → Notes table rules index firings targets code first end r h → end < 2048
+    {table : List ℕ} {rules : ℕ} {index firings targets : List ℕ} {code first end r h : ℕ} → Notes table rules index firings targets code first end r h
     → NoteIs table rules index firings targets code end r h → Notes table rules index firings targets code first (end + 1) r (h + 1)
-notes-more {table} {rules} {index} {firings} {targets} {code} {first} {end} {r} {h} x room y =
+notes-more {table} {rules} {index} {firings} {targets} {code} {first} {end} {r} {h} x y =
     let b = x .begun in
     record {
       begun = omega arith;
-      within = omega arith;
       sound =
           λ k a l.
           by-cases (ℕ-discrete k end)
@@ -214,12 +212,11 @@ notes-more {table} {rules} {index} {firings} {targets} {code} {first} {end} {r} 
     }
 
 -- No firing of a shape is noted yet.
-notes-begun : {table : List ℕ} {rules : ℕ} {index firings targets : List ℕ} {code first end : ℕ} → first ≡ end → end ≤ 2048
+notes-begun : {table : List ℕ} {rules : ℕ} {index firings targets : List ℕ} {code first end : ℕ} → first ≡ end
     → Notes table rules index firings targets code first end 0 0
-notes-begun e room =
+notes-begun e =
     record {
       begun = omega arith;
-      within = room;
       sound = λ k a b. let y : ⊥ = omega arith in absurd y;
       before = λ i j a b c. let y : ⊥ = omega arith in absurd y;
       here = λ j a. let y : ⊥ = omega arith in absurd y;
@@ -227,11 +224,11 @@ notes-begun e room =
 
 -- A firing is noted.
 notes-note :
-    {table : List ℕ} {rules : ℕ} {index firings targets : List ℕ} {code first k r h : ℕ} (target : ℕ) → Notes table rules index firings targets code first k r h → k < 2048
+    {table : List ℕ} {rules : ℕ} {index firings targets : List ℕ} {code first k r h : ℕ} (target : ℕ) → Notes table rules index firings targets code first k r h
     → NoteIs table rules index (set firings k (8 * r + 2 * h)) (set targets k target) code k r h
     → Notes table rules index (set firings k (8 * r + 2 * h)) (set targets k target) code first (k + 1) r (h + 1)
-notes-note {k = k} {r = r} {h = h} target x room new =
-    notes-more (notes-along (λ m i j c y. note-written k (8 * r + 2 * h) target c y) refl x) room new
+notes-note {k = k} {r = r} {h = h} target x new =
+    notes-more (notes-along (λ m i j c y. note-written k (8 * r + 2 * h) target c y) refl x) new
 
 -- The H lines of the rule are done.
 notes-rule :
@@ -240,7 +237,6 @@ notes-rule :
 notes-rule {table} {rules} {index} {firings} {targets} {code} {first} {end} {r} {h} x all =
     record {
       begun = x .begun;
-      within = x .within;
       sound = x .sound;
       before =
           λ i j a b c.
@@ -259,7 +255,6 @@ notes-skip :
 notes-skip {table} {r = r} x on here f =
     record {
       begun = x .begun;
-      within = x .within;
       sound = x .sound;
       before =
           λ i j a b c.
@@ -272,19 +267,19 @@ notes-skip {table} {r = r} x on here f =
       here = λ j a. let z : ⊥ = omega arith in absurd z;
     }
 
--- Where the search stands with its notes, k in all: the shapes before shape s are done; on it, H line h of rule r is next.
-pub record Noting (table : List ℕ) (rules : ℕ) (codes index firings targets starts : List ℕ) (s k r h : ℕ) : Type 0 where
-  pub size-firings : length firings ≡ 2048
-  pub size-targets : length targets ≡ 2048
+-- Where the search stands with its notes, k in all, for which there is so much room: the shapes before shape s are done; on it, H line h of rule r is next.
+pub record Noting (room : ℕ) (table : List ℕ) (rules : ℕ) (codes index firings targets starts : List ℕ) (s k r h : ℕ) : Type 0 where
+  pub size-firings : length firings ≡ room
+  pub size-targets : length targets ≡ room
   pub size-starts : length starts ≡ 513
   pub few : k ≤ 1024 * s + 4 * r + h
   pub below : (i : ℕ) → i ≤ s → getD starts i 0 ≤ k
-  pub each : (i : ℕ) → i < s → getD starts (i + 1) 0 ≤ 2048 → ShapeNotes table rules index firings targets (getD codes i 0) (getD starts i 0) (getD starts (i + 1) 0)
-  pub now : k ≤ 2048 → Notes table rules index firings targets (getD codes s 0) (getD starts s 0) k r h
+  pub each : (i : ℕ) → i < s → getD starts (i + 1) 0 ≤ room → ShapeNotes table rules index firings targets (getD codes i 0) (getD starts i 0) (getD starts (i + 1) 0)
+  pub now : k ≤ room → Notes table rules index firings targets (getD codes s 0) (getD starts s 0) k r h
 
 -- Nothing is noted.
-pub noting-begun : {table : List ℕ} {rules : ℕ} {codes index firings targets : List ℕ} (starts : List ℕ) → length firings ≡ 2048 → length targets ≡ 2048 → length starts ≡ 513
-    → Noting table rules codes index firings targets (set starts 0 0) 0 0 0 0
+pub noting-begun : {room : ℕ} {table : List ℕ} {rules : ℕ} {codes index firings targets : List ℕ} (starts : List ℕ) → length firings ≡ room → length targets ≡ room → length starts ≡ 513
+    → Noting room table rules codes index firings targets (set starts 0 0) 0 0 0 0
 noting-begun starts a b c =
     let z = getD-set-same starts 0 0 0 (omega arith) in
     record {
@@ -294,15 +289,15 @@ noting-begun starts a b c =
       few = omega arith;
       below = λ i low. let e : i ≡ 0 = omega arith in subst (λ (v : ℕ). getD (set starts 0 0) v 0 ≤ 0) (sym e) (omega arith);
       each = λ i low l. let y : ⊥ = omega arith in absurd y;
-      now = λ l. notes-begun z (omega arith);
+      now = λ l. notes-begun z;
     }
 
-module _ {table : List ℕ} {rules : ℕ} {codes index firings targets starts : List ℕ} {s k r h : ℕ}
-    (x : Noting table rules codes index firings targets starts s k r h) where
+module _ {room : ℕ} {table : List ℕ} {rules : ℕ} {codes index firings targets starts : List ℕ} {s k r h : ℕ}
+    (x : Noting room table rules codes index firings targets starts s k r h) where
   -- A shape is put at the end of the shapes.
   pub noting-push : (n new place : ℕ) → n < length codes → s < n → getD index new 0 ≡ 0
-      → Noting table rules (set codes n new) (set index new place) firings targets starts s k r h
-  noting-push n new place room low z =
+      → Noting room table rules (set codes n new) (set index new place) firings targets starts s k r h
+  noting-push n new place fits low z =
       record {
         size-firings = x .size-firings;
         size-targets = x .size-targets;
@@ -316,29 +311,31 @@ module _ {table : List ℕ} {rules : ℕ} {codes index firings targets starts : 
 
   -- A firing is noted.
   pub noting-note : {firings' targets' : List ℕ} {target : ℕ} → WrittenAt firings firings' k (8 * r + 2 * h) → WrittenAt targets targets' k target
-      → (k < 2048 → NoteIs table rules index (set firings k (8 * r + 2 * h)) (set targets k target) (getD codes s 0) k r h)
-      → Noting table rules codes index firings' targets' starts s (k + 1) r (h + 1)
+      → (k < room → NoteIs table rules index (set firings k (8 * r + 2 * h)) (set targets k target) (getD codes s 0) k r h)
+      → Noting room table rules codes index firings' targets' starts s (k + 1) r (h + 1)
   noting-note {target = target} wf wt new =
       let few = x .few in
+      let sf = x .size-firings in
+      let st = x .size-targets in
       record {
-        size-firings = wf .size;
-        size-targets = wt .size;
+        size-firings = wf .size ∙ sf;
+        size-targets = wt .size ∙ st;
         size-starts = x .size-starts;
         few = omega arith;
         below = λ i a. let b = x .below i a in omega arith;
         each =
             λ i a l.
             let b = x .below (i + 1) (omega arith) in
-            by-cases (decLt k 2048)
-            (λ (room : k < 2048).
-            rw (wf .written room, wt .written room)
+            by-cases (decLt k room)
+            (λ (low : k < room).
+            rw (wf .written (omega arith), wt .written (omega arith))
             (notes-along (λ m i' j c y. note-written k (8 * r + 2 * h) target (omega arith) y) refl (x .each i a l)))
-            (λ (z : k < 2048 → ⊥). let up : 2048 ≤ k = omega (arith, z) in rw (wf .full up, wt .full up) (x .each i a l));
-        now = λ l. rw (wf .written (omega arith), wt .written (omega arith)) (notes-note target (x .now (omega arith)) (omega arith) (new (omega arith)));
+            (λ (z : k < room → ⊥). let up : room ≤ k = omega (arith, z) in rw (wf .full (omega arith), wt .full (omega arith)) (x .each i a l));
+        now = λ l. rw (wf .written (omega arith), wt .written (omega arith)) (notes-note target (x .now (omega arith)) (new (omega arith)));
       }
 
   -- The H lines of the rule are done.
-  pub noting-rule : getD (rowBytes table r) 28 0 ≤ h → h ≤ 4 → Noting table rules codes index firings targets starts s k (r + 1) 0
+  pub noting-rule : getD (rowBytes table r) 28 0 ≤ h → h ≤ 4 → Noting room table rules codes index firings targets starts s k (r + 1) 0
   noting-rule all four =
       let few = x .few in
       record {
@@ -353,11 +350,11 @@ module _ {table : List ℕ} {rules : ℕ} {codes index firings targets starts : 
 
 -- The note of what H line h of a rule that fires on the shape makes.
 note-new :
-    {table digits : List ℕ} {rules : ℕ} {index : List ℕ} (firings targets : List ℕ) {shape kind here k r h code : ℕ} → Trying shape kind digits → shape ≡ here → r < rules
+    {room : ℕ} {table digits : List ℕ} {rules : ℕ} {index : List ℕ} (firings targets : List ℕ) {shape kind here k r h code : ℕ} → Trying shape kind digits → shape ≡ here → r < rules
     → h < getD (rowBytes table r) 28 0 → Applies (ruleIn (rowBytes table r)) (shapeAt shape) → MadeOf (ruleIn (rowBytes table r)) h digits code
-    → (getD index code 0 ≡ 0 → ⊥) → length firings ≡ 2048 → length targets ≡ 2048 → k < 2048
+    → (getD index code 0 ≡ 0 → ⊥) → length firings ≡ room → length targets ≡ room → k < room
     → NoteIs table rules index (set firings k (8 * r + 2 * h)) (set targets k (getD index code 0 - 1)) here k r h
-note-new {table} {digits} {rules} {index} firings targets {shape} {kind} {here} {k} {r} {h} {code} on is-here low line applies is placed sf st room =
+note-new {room} {table} {digits} {rules} {index} firings targets {shape} {kind} {here} {k} {r} {h} {code} on is-here low line applies is placed sf st fits =
     subst (λ (v : ℕ). NoteIs table rules index (set firings k (8 * r + 2 * h)) (set targets k (getD index code 0 - 1)) v k r h) is-here
     (record {
       rule = low;
@@ -386,11 +383,11 @@ module _ {rules : List Rule} {rows : List Record} {table digits : List ℕ} {m s
 
 -- An H line of a rule that fires is tried and noted.
 module _ {rules : List Rule} {rows : List Record} {table digits : List ℕ} {m shape kind s r heads h : ℕ} {codes index parents makers headers fired : List ℕ} {n : ℕ}
-    (x : Heading rules rows table digits m shape kind s r heads h codes index parents makers headers fired n) {firings targets starts : List ℕ} {k : ℕ}
-    (y : Noting table m codes index firings targets starts s k r h) (code : ℕ) (is : MadeOf (ruleIn (rowBytes table r)) h digits code) (high : h < heads)
+    (x : Heading rules rows table digits m shape kind s r heads h codes index parents makers headers fired n) {room : ℕ} {firings targets starts : List ℕ} {k : ℕ}
+    (y : Noting room table m codes index firings targets starts s k r h) (code : ℕ) (is : MadeOf (ruleIn (rowBytes table r)) h digits code) (high : h < heads)
     {codes' index' firings' targets' : List ℕ} (wf : WrittenAt firings firings' k (8 * r + 2 * h)) (wt : WrittenAt targets targets' k (getD index' code 0 - 1)) where
   -- Its shape was there.
-  pub noting-seen : (getD index code 0 ≡ 0 → ⊥) → codes' ≡ codes → index' ≡ index → Noting table m codes' index' firings' targets' starts s (k + 1) r (h + 1)
+  pub noting-seen : (getD index code 0 ≡ 0 → ⊥) → codes' ≡ codes → index' ≡ index → Noting room table m codes' index' firings' targets' starts s (k + 1) r (h + 1)
   noting-seen placed ec ei =
       rw (ec, ei)
       (noting-note y wf (subst (λ (v : List ℕ). WrittenAt targets targets' k (getD v code 0 - 1)) ei wt)
@@ -398,23 +395,23 @@ module _ {rules : List Rule} {rows : List Record} {table digits : List ℕ} {m s
 
   -- It was put at the end.
   pub noting-new : (n ≡ 512 → ⊥) → getD index code 0 ≡ 0 → codes' ≡ set codes n code → index' ≡ set index code (n + 1)
-      → Noting table m codes' index' firings' targets' starts s (k + 1) r (h + 1)
+      → Noting room table m codes' index' firings' targets' starts s (k + 1) r (h + 1)
   noting-new ne z ec ei =
-      let room = room-of (x .doing .kept) ne in
+      let fits = room-of (x .doing .kept) ne in
       let low = x .s-low in
       let size = x .doing .kept .sizes .1 in
       let small = is .small in
       let now = getD-set-same index code (n + 1) 0 (omega arith) in
       rw (ec, ei)
-      (noting-note (noting-push y n code (n + 1) room low z) wf (subst (λ (v : List ℕ). WrittenAt targets targets' k (getD v code 0 - 1)) ei wt)
+      (noting-note (noting-push y n code (n + 1) fits low z) wf (subst (λ (v : List ℕ). WrittenAt targets targets' k (getD v code 0 - 1)) ei wt)
       (λ l.
-      note-new firings targets (x .on) (x .here ∙ sym (old codes n code room s low)) (x .r-low) (heading-below x high) (x .applies) is (λ e. omega arith) (y .size-firings) (y .size-targets) l))
+      note-new firings targets (x .on) (x .here ∙ sym (old codes n code fits s low)) (x .r-low) (heading-below x high) (x .applies) is (λ e. omega arith) (y .size-firings) (y .size-targets) l))
 
 -- The rules from rule r to rule q do not fire.
 pub noting-next :
-    {table digits : List ℕ} {rules shape kind : ℕ} {codes index firings targets starts : List ℕ} {s k r q : ℕ}
-    → Noting table rules codes index firings targets starts s k r 0 → Trying shape kind digits → shape ≡ getD codes s 0 → NextFire table rules r kind digits q
-    → Noting table rules codes index firings targets starts s k q 0
+    {room : ℕ} {table digits : List ℕ} {rules shape kind : ℕ} {codes index firings targets starts : List ℕ} {s k r q : ℕ}
+    → Noting room table rules codes index firings targets starts s k r 0 → Trying shape kind digits → shape ≡ getD codes s 0 → NextFire table rules r kind digits q
+    → Noting room table rules codes index firings targets starts s k q 0
 noting-next x on here f =
     let few = x .few in
     let up = f .begun in
@@ -430,9 +427,9 @@ noting-next x on here f =
 
 -- All rules were tried on the shape.
 pub noting-shape :
-    {table : List ℕ} {rules : ℕ} {codes index firings targets starts : List ℕ} {s k r : ℕ} → Noting table rules codes index firings targets starts s k r 0
-    → r ≤ rules → rules ≤ r → rules ≤ 256 → s < 512 → Noting table rules codes index firings targets (set starts (s + 1) k) (s + 1) k 0 0
-noting-shape {table} {rules} {codes} {index} {firings} {targets} {starts} {s} {k} {r} x a b top low =
+    {room : ℕ} {table : List ℕ} {rules : ℕ} {codes index firings targets starts : List ℕ} {s k r : ℕ} → Noting room table rules codes index firings targets starts s k r 0
+    → r ≤ rules → rules ≤ r → rules ≤ 256 → s < 512 → Noting room table rules codes index firings targets (set starts (s + 1) k) (s + 1) k 0 0
+noting-shape {room} {table} {rules} {codes} {index} {firings} {targets} {starts} {s} {k} {r} x a b top low =
     let few = x .few in
     let z = getD-set-same starts (s + 1) k 0 (let size = x .size-starts in omega arith) in
     record {
@@ -450,7 +447,7 @@ noting-shape {table} {rules} {codes} {index} {firings} {targets} {starts} {s} {k
           by-cases (ℕ-discrete i s)
           (λ (e : i ≡ s).
           subst
-          (λ (v : ℕ). getD (set starts (s + 1) k) (v + 1) 0 ≤ 2048
+          (λ (v : ℕ). getD (set starts (s + 1) k) (v + 1) 0 ≤ room
           → ShapeNotes table rules index firings targets (getD codes v 0) (getD (set starts (s + 1) k) v 0) (getD (set starts (s + 1) k) (v + 1) 0))
           (sym e)
           (rw (z, getD-set-other starts (s + 1) s k 0 (λ e. omega arith))
@@ -459,20 +456,24 @@ noting-shape {table} {rules} {codes} {index} {firings} {targets} {starts} {s} {k
           subst (λ (v : ℕ). Notes table rules index firings targets (getD codes s 0) (getD starts s 0) k v 0) q (x .now l))))
           (λ (e : i ≡ s → ⊥).
           rw (getD-set-other starts (s + 1) i k 0 (λ d. omega arith), getD-set-other starts (s + 1) (i + 1) k 0 (λ d. omega arith)) (x .each i (omega arith)));
-      now = λ l. notes-begun z l;
+      now = λ l. notes-begun z;
     }
 
 -- The shapes are done.
 pub noting-all :
-    {table : List ℕ} {rules : ℕ} {codes index firings targets starts : List ℕ} {s k r h n : ℕ} → Noting table rules codes index firings targets starts s k r h → n ≤ s
+    {room : ℕ} {table : List ℕ} {rules : ℕ} {codes index firings targets starts : List ℕ} {s k r h n : ℕ} → Noting room table rules codes index firings targets starts s k r h → n ≤ s → room ≤ 8192
     → Noted table rules codes index firings targets starts n
-noting-all x all =
-    record {
-      size-firings = x .size-firings;
-      size-targets = x .size-targets;
-      size-starts = x .size-starts;
-      each = λ i low l. x .each i (omega arith) l;
-    }
+noting-all x all few =
+    let sf = x .size-firings in
+    let st = x .size-targets in
+    record { few = omega arith; paired = omega arith; size-starts = x .size-starts; each = λ i low l. x .each i (omega arith) (omega arith) }
+
+-- The room is known by another number.
+pub noting-room :
+    {room room' : ℕ} {table : List ℕ} {rules : ℕ} {codes index firings targets starts : List ℕ} {s k r h : ℕ} → room ≡ room'
+    → Noting room table rules codes index firings targets starts s k r h → Noting room' table rules codes index firings targets starts s k r h
+noting-room {table = table} {rules = rules} {codes = codes} {index = index} {firings = firings} {targets = targets} {starts = starts} {s = s} {k = k} {r = r} {h = h} e x =
+    subst (λ (v : ℕ). Noting v table rules codes index firings targets starts s k r h) e x
 
 -- ---- noting the firings on one shape
 
@@ -483,14 +484,14 @@ heads-few {table} {r = r} fits low =
 
 -- Where the noting stands, k notes in all: H line h of rule r is next.
 pub record Filling (table : List ℕ) (rules : ℕ) (index firings targets : List ℕ) (shape k r h : ℕ) : Type 0 where
-  pub size-firings : length firings ≡ 2048
-  pub size-targets : length targets ≡ 2048
+  pub size-firings : length firings ≡ 1024
+  pub size-targets : length targets ≡ 1024
   pub few : k ≤ 4 * r + h
   pub notes : Notes table rules index firings targets shape 0 k r h
 
-pub filling-begun : {table : List ℕ} {rules : ℕ} {index firings targets : List ℕ} {shape : ℕ} → length firings ≡ 2048 → length targets ≡ 2048
+pub filling-begun : {table : List ℕ} {rules : ℕ} {index firings targets : List ℕ} {shape : ℕ} → length firings ≡ 1024 → length targets ≡ 1024
     → Filling table rules index firings targets shape 0 0 0
-filling-begun a b = record { size-firings = a; size-targets = b; few = omega arith; notes = notes-begun refl (omega arith) }
+filling-begun a b = record { size-firings = a; size-targets = b; few = omega arith; notes = notes-begun refl }
 
 pub filling-next :
     {table digits : List ℕ} {rules kind : ℕ} {index firings targets : List ℕ} {shape k r q : ℕ} → Filling table rules index firings targets shape k r 0
@@ -530,14 +531,16 @@ module _ {table : List ℕ} {rules : ℕ} {index firings targets : List ℕ} {sh
         let top = fits .few in
         let four = heads-few fits low in
         let there = filling-there in
-        let room : k < 2048 = omega arith in
+        let sf = x .size-firings in
+        let st = x .size-targets in
+        let room : k < 1024 = omega arith in
         record {
-          size-firings = wf .size;
-          size-targets = wt .size;
+          size-firings = wf .size ∙ sf;
+          size-targets = wt .size ∙ st;
           few = omega arith;
           notes =
-              rw (wf .written room, wt .written room)
-              (notes-note (getD index code 0 - 1) (x .notes) room
+              rw (wf .written (omega arith), wt .written (omega arith))
+              (notes-note (getD index code 0 - 1) (x .notes)
               (note-new firings targets on refl low line applies is (λ e. omega arith) (x .size-firings) (x .size-targets) room));
         }
 

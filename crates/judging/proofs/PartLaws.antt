@@ -16,8 +16,8 @@ use Rattle.chase.specs.Lists.{In, All}
 use Rattle.chase.specs.Rules.{Head, Rule, marksOf}
 use Rattle.chase.specs.Making.{has, carriedMarks}
 use Rattle.chase.proofs.MakingLaws.{carried-in, in-carried}
-use Rattle.judging.specs.Table.{later, firstPlace, flag, sourceAt, MarksFit, HeadFits, RuleFits}
-use Rattle.judging.specs.Bytes.{marksAt, headAt, headsAt, ruleAt, LineIn, lineByte, headByte, byteOf, Blank, Part, markByte, placeByte, placeIn, PlacesFit, sourceOnce, sourceAfter, sourcesWith, HeadsPut, RowPut}
+use Rattle.judging.specs.inner.Table.{later, firstPlace, flag, sourceAt, MarksFit, HeadFits, RuleFits}
+use Rattle.judging.specs.inner.Bytes.{marksAt, headAt, headsAt, ruleAt, LineIn, lineByte, headByte, byteOf, Blank, Part, markByte, placeByte, placeIn, PlacesFit, sourceOnce, sourceAfter, sourcesWith, HeadsPut, RowPut}
 use Rattle.judging.proofs.Sources.{Source, nothing, first, first-within, first-in, first-at, source-is, no-source, carried-source}
 use Rattle.judging.proofs.ByteLaws.{Counts, counts-begun, counts-done, counts-stop, counts-more, mark-there, marks-small, past, past-none, past-later, head-byte, no-head-byte, length-headsAt, byte-line, byte-place, byte-source, byte-head, byte-heads, byte-unused}
 

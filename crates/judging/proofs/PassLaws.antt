@@ -7,8 +7,8 @@ use native.Mathlib.Omega.{arith}
 use native.Mathlib.Decide.{ℕ-discrete}
 use lib.ListN.{getD, set, length-set}
 use lib.Seq.{getD-set-same, getD-set-other}
-use Rattle.judging.specs.Nodes.{at, put, weight}
-use Rattle.judging.specs.Passes.{Live, Done, Same, Rests, Just, Upto, FreshE, Best, sumTo}
+use Rattle.judging.specs.inner.Nodes.{at, put, weight}
+use Rattle.judging.specs.inner.Passes.{Live, Done, Same, Rests, Just, Upto, FreshE, Best, sumTo}
 use Rattle.judging.proofs.NodeLaws.{Change, put-change, put-grid, sum-change}
 use Rattle.judging.proofs.BackLaws.{raise}
 

@@ -10,7 +10,7 @@ use lib.ListN.{length, getD, length-map, List·getD-map}
 use borrow.Author.Tests.{ltb-true}
 use Rattle.patterns.specs.Pattern.{patterns, patternsTo, goingOn, led}
 use Rattle.chase.specs.Shape.{Shape}
-use Rattle.judging.specs.Codes.{shapeAt}
+use Rattle.judging.specs.inner.Codes.{shapeAt}
 
 -- Digits read as a number to the base seven: the patterns' numbers rise.
 abbrev seven : ℕ → List ℕ → ℕ

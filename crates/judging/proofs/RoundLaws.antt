@@ -5,11 +5,11 @@ use mathlib.Core.Logic.{_⊎_, inl, inr, by-cases}
 use Prim.Native.Nat.{ℕ, _+_, _*_, _/_, _≤_, _<_}
 use native.Mathlib.Omega.{arith}
 use native.Mathlib.Decide.{ℕ-discrete, decLe}
-use Rattle.judging.specs.Table.{tableRules, TableFits}
-use Rattle.judging.specs.Nodes.{at, Grid, Zeros, back, weight, Stable, Turn}
-use Rattle.judging.specs.Links.{Link, Closed, Spreads}
-use Rattle.judging.specs.Passes.{Live, Swept, Same, Rests, EachE, Inside, Walked, Last, sumTo}
-use Rattle.judging.specs.Fresh.{FirstWaiting}
+use Rattle.judging.specs.inner.Table.{tableRules, TableFits}
+use Rattle.judging.specs.inner.Nodes.{at, Grid, Zeros, back, weight, Stable, Turn}
+use Rattle.judging.specs.inner.Links.{Link, Closed, Spreads}
+use Rattle.judging.specs.inner.Passes.{Live, Swept, Same, Rests, EachE, Inside, Walked, Last, sumTo}
+use Rattle.judging.specs.inner.Fresh.{FirstWaiting}
 use Rattle.judging.proofs.NodeLaws.{sum-low}
 use Rattle.judging.proofs.BackLaws.{begun}
 use Rattle.judging.proofs.EndLaws.{Kept, climb, fresh-le, below, forever, back-again, turn, line}

@@ -24,10 +24,10 @@ use Rattle.chase.specs.Shape.{Shape, shapeOf}
 use Rattle.chase.specs.Counting.{MoreThan}
 use Rattle.chase.specs.Simplification.{Derived}
 use Rattle.chase.proofs.ShapeLaws.{pattern-map}
-use Rattle.judging.specs.Codes.{shapeAt, ShapeFits, CodeIs}
-use Rattle.judging.specs.Table.{SheetHeld, linesIn, rowsIn, KindFits}
-use Rattle.judging.specs.Found.{Has, viaRow}
-use Rattle.judging.specs.Rows.{Clear, rowNumbers, RowAt, RowsFound, RowsTried}
+use Rattle.judging.specs.inner.Codes.{shapeAt, ShapeFits, CodeIs}
+use Rattle.judging.specs.inner.Table.{SheetHeld, linesIn, rowsIn, KindFits}
+use Rattle.judging.specs.inner.Found.{Has, viaRow}
+use Rattle.judging.specs.inner.Rows.{Clear, rowNumbers, RowAt, RowsFound, RowsTried}
 use Rattle.judging.proofs.CodeLaws.{pattern-fits}
 use Rattle.judging.proofs.SheetLaws.{lineNo, linesBefore, before-next, LentLine, lent-line, held-lines, size-held, rows-few}
 use Rattle.judging.proofs.Places.{nth-below}

@@ -18,11 +18,11 @@ use Rattle.chase.specs.Making.{Record}
 use Rattle.chase.specs.Shape.{Shape, shapeOf}
 use Rattle.chase.specs.Counting.{MoreThan}
 use Rattle.chase.specs.Simplification.{Applies, Derived}
-use Rattle.judging.specs.Codes.{shapeAt, ShapeFits, shapeFrom, DigitsFit, FiresOn, MadeOf}
-use Rattle.judging.specs.Firing.{NextFire}
-use Rattle.judging.specs.Table.{headsIn, ruleIn, rowBytes, tableRules, TableFits}
-use Rattle.judging.specs.Found.{shapeNo, Has, viaRule, Kept, Whole, FiredMarks}
-use Rattle.judging.specs.Rows.{Clear, RowsFound}
+use Rattle.judging.specs.inner.Codes.{shapeAt, ShapeFits, shapeFrom, DigitsFit, FiresOn, MadeOf}
+use Rattle.judging.specs.inner.Firing.{NextFire}
+use Rattle.judging.specs.inner.Table.{headsIn, ruleIn, rowBytes, tableRules, TableFits}
+use Rattle.judging.specs.inner.Found.{shapeNo, Has, viaRule, Kept, Whole, FiredMarks}
+use Rattle.judging.specs.inner.Rows.{Clear, RowsFound}
 use Rattle.judging.proofs.CodeLaws.{digits-at, digits-fit}
 use Rattle.judging.proofs.Places.{in-nth, nth-below}
 use Rattle.judging.proofs.FoundLaws.{old, old-shape, new-shape, has-more, has-last, room-of, marked-has, kept-push, more-than, kept-derived, derived-made}

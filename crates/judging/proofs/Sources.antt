@@ -15,7 +15,7 @@ use Rattle.chase.specs.Lists.{In}
 use Rattle.chase.specs.Rules.{Rule, marksOf, nth}
 use Rattle.chase.specs.Making.{valueOf, has, carriedMarks}
 use Rattle.chase.proofs.MakingLaws.{has-in, in-has, carried-in, in-carried}
-use Rattle.judging.specs.Table.{later, firstPlace, isNone, flag, sourceAt}
+use Rattle.judging.specs.inner.Table.{later, firstPlace, isNone, flag, sourceAt}
 
 -- The first place of a mark is at most the number of marks, and 0 only where the mark is not there.
 pub first-within : (m : ℕ) (bs : List ℕ) → firstPlace m bs ≤ length bs

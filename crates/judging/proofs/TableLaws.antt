@@ -15,8 +15,8 @@ use Rattle.sheet.specs.Line.{B, H, Line}
 use Rattle.patterns.specs.Outcome.{padded}
 use Rattle.chase.specs.Lists.{All}
 use Rattle.chase.specs.Rules.{Head, Rule, headsOf, rulesOf}
-use Rattle.judging.specs.Table.{SheetHeld, linesIn, rulesIn, ruleIn, rowBytes, tableRules, RuleFits, BytesFit, TableFits}
-use Rattle.judging.specs.Bytes.{front, marksAt, headsAt, ruleAt, LinesIn, headCount, byteOf, Blank, RowPut}
+use Rattle.judging.specs.inner.Table.{SheetHeld, linesIn, rulesIn, ruleIn, rowBytes, tableRules, RuleFits, BytesFit, TableFits}
+use Rattle.judging.specs.inner.Bytes.{front, marksAt, headsAt, ruleAt, LinesIn, headCount, byteOf, Blank, RowPut}
 use Rattle.judging.proofs.SheetLaws.{noLine, lineNo, held-lines, size-held, LentLine, lent-line, rules-fit-from, rules-few}
 use Rattle.judging.proofs.ByteLaws.{bytes-fit, rule-read}
 

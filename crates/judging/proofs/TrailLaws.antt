@@ -25,11 +25,11 @@ use Rattle.sheet.proofs.Sheets.{refused≢good}
 use Rattle.sheet.proofs.Refused.{sheetHeld-refused, sheetHeld-number}
 use Rattle.chase.specs.Steps.{Step, stepNumbers}
 use Rattle.chase.proofs.StepLaws.{length-numbers, numbers-append}
-use Rattle.judging.specs.Table.{FirstWrong}
-use Rattle.judging.specs.Found.{onesIn}
-use Rattle.judging.specs.Nodes.{at, back, weight}
-use Rattle.judging.specs.Written.{linkStep, lineTo, reachStep, madeOf, wayBack, wayTo, Falls, WayLength, putSteps, oneStep, StaysBelow, Deepest, InTurn, TurnLength, InLine, LineLength}
-use Rattle.judging.specs.Trails.{WroteEndless, WroteSettled}
+use Rattle.judging.specs.inner.Table.{FirstWrong}
+use Rattle.judging.specs.inner.Found.{onesIn}
+use Rattle.judging.specs.inner.Nodes.{at, back, weight}
+use Rattle.judging.specs.inner.Written.{linkStep, lineTo, reachStep, madeOf, wayBack, wayTo, Falls, WayLength, putSteps, oneStep, StaysBelow, Deepest, InTurn, TurnLength, InLine, LineLength}
+use Rattle.judging.specs.inner.Trails.{WroteEndless, WroteSettled}
 
 -- Numbers put over a part of a list.
 

@@ -20,11 +20,11 @@ use Rattle.chase.specs.Judge.{Verdict, judged, refuses, SettlesAtOnce, Settles,
 use Rattle.chase.proofs.BoundLaws.{rows-of-tables}
 use Rattle.chase.proofs.StepLaws.{length-numbers, numbers-append}
 use Rattle.chase.proofs.CertificateLaws.{settled-certificate, settled-at-once, endless-certificate}
-use Rattle.judging.specs.Table.{linesIn, SheetHeld}
-use Rattle.judging.specs.Found.{onesIn}
-use Rattle.judging.specs.Nodes.{at, back}
-use Rattle.judging.specs.Written.{lineTo, wayBack, wayTo, WayLength, putSteps, Deepest, TurnLength, LineLength}
-use Rattle.judging.specs.Facts.{Facts}
+use Rattle.judging.specs.inner.Table.{linesIn, SheetHeld}
+use Rattle.judging.specs.inner.Found.{onesIn}
+use Rattle.judging.specs.inner.Nodes.{at, back}
+use Rattle.judging.specs.inner.Written.{lineTo, wayBack, wayTo, WayLength, putSteps, Deepest, TurnLength, LineLength}
+use Rattle.judging.specs.inner.Facts.{Facts}
 use Rattle.judging.proofs.Counts.{over}
 use Rattle.judging.proofs.ListOf.{listOf}
 use Rattle.judging.proofs.FactLaws.{shapes-reached, rules-fired, list-closed, deepest-is, line-found, loop-found}

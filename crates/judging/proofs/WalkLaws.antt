@@ -5,8 +5,8 @@ use Prim.Native.Nat.{ℕ, _+_, _≤_, _<_}
 use native.Mathlib.Omega.{arith}
 use native.Mathlib.Numerals.{add-one}
 use borrow.Author.Count.{below-more}
-use Rattle.judging.specs.Nodes.{at, back}
-use Rattle.judging.specs.Passes.{Long, Inside, Walked}
+use Rattle.judging.specs.inner.Nodes.{at, back}
+use Rattle.judging.specs.inner.Passes.{Long, Inside, Walked}
 
 -- The walk is k links back from x, at y.
 pub record Going (n : ℕ) (g from : List (List ℕ)) (x y k : ℕ) : Type 0 where

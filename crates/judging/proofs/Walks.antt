@@ -12,12 +12,12 @@ use Rattle.chase.specs.Shape.{Shape}
 use Rattle.chase.specs.Counting.{NoTwo}
 use Rattle.chase.specs.Steps.{Step, Moves, Follow, lastTo, lastFresh, Place}
 use Rattle.chase.specs.Certificate.{shapeAfter, EachShape, lastShape, placesOn, LoopOn, freshSteps}
-use Rattle.judging.specs.Table.{RuleFits}
-use Rattle.judging.specs.Codes.{ShapeFits}
-use Rattle.judging.specs.Found.{shapeNo}
-use Rattle.judging.specs.Nodes.{back, weight, freshBack, Stable, Turn}
-use Rattle.judging.specs.Links.{Link}
-use Rattle.judging.specs.Written.{linkStep, lineTo}
+use Rattle.judging.specs.inner.Table.{RuleFits}
+use Rattle.judging.specs.inner.Codes.{ShapeFits}
+use Rattle.judging.specs.inner.Found.{shapeNo}
+use Rattle.judging.specs.inner.Nodes.{back, weight, freshBack, Stable, Turn}
+use Rattle.judging.specs.inner.Links.{Link}
+use Rattle.judging.specs.inner.Written.{linkStep, lineTo}
 use Rattle.judging.proofs.Places.{few-below}
 use Rattle.judging.proofs.LinkSteps.{link-numbers, link-moves, link-to, link-begins, link-ends}
 

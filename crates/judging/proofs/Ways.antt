@@ -16,9 +16,9 @@ use Rattle.chase.specs.Certificate.{asRecord, shapeAfter, EachShape, lastShape,
 use Rattle.chase.proofs.ListLaws.{in-append}
 use Rattle.chase.proofs.StepLaws.{after-made, head-in, lastShape-append}
 use Rattle.chase.proofs.ShapeLaws.{applies-as-record, made-digits}
-use Rattle.judging.specs.Codes.{shapeFrom}
-use Rattle.judging.specs.Found.{shapeNo, Via, viaRow, viaRule, Kept}
-use Rattle.judging.specs.Written.{reachStep, madeOf, wayBack, wayTo, WayLength}
+use Rattle.judging.specs.inner.Codes.{shapeFrom}
+use Rattle.judging.specs.inner.Found.{shapeNo, Via, viaRow, viaRule, Kept}
+use Rattle.judging.specs.inner.Written.{reachStep, madeOf, wayBack, wayTo, WayLength}
 use Rattle.judging.proofs.Places.{noTwo-snoc}
 use Rattle.judging.proofs.Counts.{fits-as-record, place-one}
 

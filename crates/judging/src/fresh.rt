@@ -3,10 +3,10 @@
 ghost use mathlib.Core.Path.{_≡_};
 ghost use Prim.Native.Nat.{ℕ, _≤_, _<_};
 ghost use lib.ListN.{length, getD};
-ghost use Rattle.judging.specs.Table.{rowBytes, BytesFit, TableFits};
-ghost use Rattle.judging.specs.Codes.{Decides};
-ghost use Rattle.judging.specs.Passes.{LineBytes};
-ghost use Rattle.judging.specs.Fresh.{HeadFresh, RuleFresh, FreshKinds, FirstWaiting};
+ghost use Rattle.judging.specs.inner.Table.{rowBytes, BytesFit, TableFits};
+ghost use Rattle.judging.specs.inner.Codes.{Decides};
+ghost use Rattle.judging.specs.inner.Passes.{LineBytes};
+ghost use Rattle.judging.specs.inner.Fresh.{HeadFresh, RuleFresh, FreshKinds, FirstWaiting};
 use crate::shape::rule_byte;
 
 // Whether H line `h` of rule `r` has a fresh mark.

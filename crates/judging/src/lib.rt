@@ -1,6 +1,7 @@
 // Judging a sheet: whether its follow-ups come to rest.
 mod fresh;
 mod kinds;
+mod order;
 mod search;
 mod shape;
 mod spread;
@@ -13,14 +14,14 @@ ghost use lib.ListN.{length};
 ghost use Rattle.chase.specs.Counting.{share as shareOf};
 ghost use Rattle.chase.specs.Judge.{JudgeMeets, shapeLimit};
 ghost use Rattle.judging.specs.Answer.{judgeSays, judgeRefusalNumber, judgeRefusalLine};
-ghost use Rattle.judging.specs.Table.{SheetHeld, FirstWrong, rulesIn, tableRules, TableFits};
-ghost use Rattle.judging.specs.Firing.{ByKind};
-ghost use Rattle.judging.specs.Found.{onesIn};
-ghost use Rattle.judging.specs.Noted.{Noted};
-ghost use Rattle.judging.specs.Nodes.{Grid, Zeros};
-ghost use Rattle.judging.specs.Written.{InTurn, InLine};
-ghost use Rattle.judging.specs.Trails.{Lent, WroteEndless, WroteSettled};
-ghost use Rattle.judging.specs.Judged.{SomeKnown, RightForKnown, SaysEndless, Lines, SaysSettled};
+ghost use Rattle.judging.specs.inner.Table.{SheetHeld, FirstWrong, rulesIn, tableRules, TableFits};
+ghost use Rattle.judging.specs.inner.Firing.{ByKind};
+ghost use Rattle.judging.specs.inner.Found.{onesIn};
+ghost use Rattle.judging.specs.inner.Noted.{Noted};
+ghost use Rattle.judging.specs.inner.Nodes.{Grid, Zeros};
+ghost use Rattle.judging.specs.inner.Written.{InTurn, InLine};
+ghost use Rattle.judging.specs.inner.Trails.{Lent, WroteEndless, WroteSettled};
+ghost use Rattle.judging.specs.inner.Judged.{SomeKnown, RightForKnown, SaysEndless, Lines, SaysSettled};
 use sheet::Refusal;
 use sheet::WriteAnswer;
 
@@ -261,8 +262,8 @@ fn judge_found(
     makers: &[u16; 512],
     headers: &[u16; 512],
     marks: &[u8; 256],
-    firings: &[u16; 2048],
-    targets: &[u16; 2048],
+    firings: &[u16],
+    targets: &[u16],
     starts: &[u32; 513],
     count: usize,
 ) -> JudgeAnswer
@@ -318,9 +319,17 @@ fn judge_found(
     )
 }
 
-// Judges a sheet by its rules.
-fn judge_rules(lines: &[u32], steps: &mut [u16], table: &[u8; 16384], rules: usize) -> JudgeAnswer
-    requires { ⌜ SheetHeld (now lines) × (20480 ≤ length (now steps)) × TableFits (now table) rules × (tableRules (now table) rules ≡ rulesIn (now lines)) ⌝ }
+// Judges a sheet by its rules, with room for notes of firings.
+fn judge_rules(
+    lines: &[u32],
+    steps: &mut [u16],
+    table: &[u8; 16384],
+    rules: usize,
+    firings: &mut [u16],
+    targets: &mut [u16],
+) -> JudgeAnswer
+    requires { ⌜ SheetHeld (now lines) × (20480 ≤ length (now steps)) × TableFits (now table) rules × (tableRules (now table) rules ≡ rulesIn (now lines))
+        × (length (now firings) ≤ 8192) × (length (now targets) ≡ length (now firings)) ⌝ }
     ensures { λ r. ⌜ JudgeMeets shapeLimit (now (lines .entry)) (now (steps .entry)) (judgeSays r) (now (steps .exit)) ⌝ }
 {
     let kinds = kinds::by_kind(table, rules);
@@ -329,8 +338,6 @@ fn judge_rules(lines: &[u32], steps: &mut [u16], table: &[u8; 16384], rules: usi
     let mut parents = [0u16; 512];
     let mut makers = [0u16; 512];
     let mut headers = [0u16; 512];
-    let mut firings = [0u16; 2048];
-    let mut targets = [0u16; 2048];
     let mut starts = [0u32; 513];
     let found = search::search(
         lines,
@@ -342,8 +349,8 @@ fn judge_rules(lines: &[u32], steps: &mut [u16], table: &[u8; 16384], rules: usi
         &mut parents,
         &mut makers,
         &mut headers,
-        &mut firings,
-        &mut targets,
+        firings,
+        targets,
         &mut starts,
     );
     if found.full {
@@ -361,11 +368,41 @@ fn judge_rules(lines: &[u32], steps: &mut [u16], table: &[u8; 16384], rules: usi
         &makers,
         &headers,
         &marks,
-        &firings,
-        &targets,
+        firings,
+        targets,
         &starts,
         found.count,
     )
+}
+
+// Judges a sheet of up to 256 lines, with room for 2,048 notes: to clear less for a small sheet.
+fn judge_few_lines(
+    lines: &[u32],
+    steps: &mut [u16],
+    table: &[u8; 16384],
+    rules: usize,
+) -> JudgeAnswer
+    requires { ⌜ SheetHeld (now lines) × (20480 ≤ length (now steps)) × TableFits (now table) rules × (tableRules (now table) rules ≡ rulesIn (now lines)) ⌝ }
+    ensures { λ r. ⌜ JudgeMeets shapeLimit (now (lines .entry)) (now (steps .entry)) (judgeSays r) (now (steps .exit)) ⌝ }
+{
+    let mut firings = [0u16; 2048];
+    let mut targets = [0u16; 2048];
+    judge_rules(lines, steps, table, rules, &mut firings, &mut targets)
+}
+
+// Judges a sheet of any number of lines, with room for 8,192 notes.
+fn judge_many_lines(
+    lines: &[u32],
+    steps: &mut [u16],
+    table: &[u8; 16384],
+    rules: usize,
+) -> JudgeAnswer
+    requires { ⌜ SheetHeld (now lines) × (20480 ≤ length (now steps)) × TableFits (now table) rules × (tableRules (now table) rules ≡ rulesIn (now lines)) ⌝ }
+    ensures { λ r. ⌜ JudgeMeets shapeLimit (now (lines .entry)) (now (steps .entry)) (judgeSays r) (now (steps .exit)) ⌝ }
+{
+    let mut firings = [0u16; 8192];
+    let mut targets = [0u16; 8192];
+    judge_rules(lines, steps, table, rules, &mut firings, &mut targets)
 }
 
 // Judges lent lines that are a sheet.
@@ -375,7 +412,10 @@ fn judge_sheet(lines: &[u32], steps: &mut [u16]) -> JudgeAnswer
 {
     let mut table = table::no_rules();
     let rules = table::rules_of(lines, &mut table);
-    judge_rules(lines, steps, &table, rules)
+    if lines.len() > 2048 {
+        return judge_many_lines(lines, steps, &table, rules);
+    }
+    judge_few_lines(lines, steps, &table, rules)
 }
 
 // Judges lent lines, eight numbers each. At least 4,096 steps, five numbers each, are lent for the trail and the loop. A good call changes the steps that it counts and nothing else; a refusal changes nothing.

@@ -5,12 +5,12 @@ ghost use native.Mathlib.Decide.{ℕ-discrete};
 ghost use Prim.Native.Nat.{_+_, _-_, _*_, _≤_, _<_};
 ghost use lib.ListN.{length, getD, set};
 ghost use Rattle.patterns.specs.Pattern.{pattern};
-ghost use Rattle.judging.specs.Table.{SheetHeld, rulesIn, rowsIn, tableRules, KindFits, TableFits};
-ghost use Rattle.judging.specs.Codes.{CodeIs};
-ghost use Rattle.judging.specs.Firing.{ByKind};
-ghost use Rattle.judging.specs.Found.{Searched};
-ghost use Rattle.judging.specs.Noted.{WrittenAt, Noted};
-ghost use Rattle.judging.specs.Rows.{Clear, rowNumbers, RowAt, RowsFound, RowsTried};
+ghost use Rattle.judging.specs.inner.Table.{SheetHeld, rulesIn, rowsIn, tableRules, KindFits, TableFits};
+ghost use Rattle.judging.specs.inner.Codes.{CodeIs};
+ghost use Rattle.judging.specs.inner.Firing.{ByKind};
+ghost use Rattle.judging.specs.inner.Found.{Searched};
+ghost use Rattle.judging.specs.inner.Noted.{WrittenAt, Noted};
+ghost use Rattle.judging.specs.inner.Rows.{Clear, rowNumbers, RowAt, RowsFound, RowsTried};
 use crate::shape::made;
 use crate::shape::next_fire;
 use crate::shape::rule_byte;
@@ -149,17 +149,11 @@ fn find_rows(
 }
 
 // Notes firing number k, where there is room: its rule and H line as 8 × rule + 2 × H line, and the place of the shape that it makes.
-pub(crate) fn note(
-    firings: &mut [u16; 2048],
-    targets: &mut [u16; 2048],
-    k: usize,
-    link: usize,
-    place: u16,
-)
-    requires { ⌜ (length (now firings) ≡ 2048) × (length (now targets) ≡ 2048) × (link < 65536) × (1 ≤ place) ⌝ }
+pub(crate) fn note(firings: &mut [u16], targets: &mut [u16], k: usize, link: usize, place: u16)
+    requires { ⌜ (length (now targets) ≡ length (now firings)) × (link < 65536) × (1 ≤ place) ⌝ }
     ensures { λ _. ⌜ WrittenAt (now (firings .entry)) (now (firings .exit)) k link × WrittenAt (now (targets .entry)) (now (targets .exit)) k (place - 1) ⌝ }
 {
-    if k < 2048 {
+    if k < firings.len() {
         firings[k] = link as u16;
         targets[k] = place - 1;
     }
@@ -181,19 +175,21 @@ pub(crate) fn search(
     // The number of the H line that made it; 0 where a row has it.
     headers: &mut [u16; 512],
     // The rule and the H line of each noted firing, as 8 × rule + 2 × H line.
-    firings: &mut [u16; 2048],
+    firings: &mut [u16],
     // The place of the shape that each makes.
-    targets: &mut [u16; 2048],
+    targets: &mut [u16],
     // Where the notes of each shape begin; those of the last end where the next would begin.
     starts: &mut [u32; 513],
 ) -> Found
     requires { ⌜ SheetHeld (now lines) × TableFits (now table) rules × (tableRules (now table) rules ≡ rulesIn (now lines)) × (length (now shapes) ≡ 512) × Clear (now index) 17792 × (length (now parents) ≡ 512) × (length (now makers) ≡ 512) × (length (now headers) ≡ 512) × ByKind (now table) rules (now kinds)
-        × (length (now firings) ≡ 2048) × (length (now targets) ≡ 2048) × (length (now starts) ≡ 513) ⌝ }
+        × (length (now firings) ≤ 8192) × (length (now targets) ≡ length (now firings)) × (length (now starts) ≡ 513) ⌝ }
     ensures { λ r. ⌜ Searched (rulesIn (now (lines .entry))) (rowsIn (now (lines .entry))) (now (shapes .exit)) (now (index .exit)) (now (parents .exit)) (now (makers .exit)) (now (headers .exit)) (r .fired) (r .count) (r .full)
         × (r .full ≡ false → Noted (now (table .entry)) rules (now (shapes .exit)) (now (index .exit)) (now (firings .exit)) (now (targets .exit)) (now (starts .exit)) (r .count)) ⌝ }
 {
     let mut fired = [0u8; 256];
-    let mut count = find_rows(lines, shapes, index, parents, makers, headers);
+    // How many shapes the rows have.
+    let rows = find_rows(lines, shapes, index, parents, makers, headers);
+    let mut count = rows;
     let mut full = false;
     if 512 < count {
         full = true;

@@ -6,14 +6,16 @@
 ghost use mathlib.Core.Path.{_≡_};
 ghost use Prim.Native.Nat.{ℕ, _+_, _*_, _≤_, _<_};
 ghost use lib.ListN.{length, getD};
-ghost use Rattle.judging.specs.Table.{tableRules, rowBytes, TableFits};
-ghost use Rattle.judging.specs.Codes.{shapeAt, ShapeFits};
-ghost use Rattle.judging.specs.Firing.{ByKind};
-ghost use Rattle.judging.specs.Nodes.{at, put, Grid, Zeros};
-ghost use Rattle.judging.specs.Links.{Closed, Spreads};
-ghost use Rattle.judging.specs.Noted.{Noted, ShapeNotes, NoteFits, NotesE};
-ghost use Rattle.judging.specs.Passes.{Live, Done, Swept, Rests, Just, Upto, FreshE, Best, LineBytes, HeadE, ShapeE, EachE, Onward, Inside, Walked, Last};
+ghost use Rattle.judging.specs.inner.Table.{tableRules, rowBytes, TableFits};
+ghost use Rattle.judging.specs.inner.Codes.{shapeAt, ShapeFits};
+ghost use Rattle.judging.specs.inner.Firing.{ByKind};
+ghost use Rattle.judging.specs.inner.Nodes.{at, put, Grid, Zeros};
+ghost use Rattle.judging.specs.inner.Links.{Closed, Spreads};
+ghost use Rattle.judging.specs.inner.Noted.{Noted, ShapeNotes, NoteFits, NotesE};
+ghost use Rattle.judging.specs.inner.Order.{Ordered};
+ghost use Rattle.judging.specs.inner.Passes.{Live, Done, Swept, Rests, Just, Upto, FreshE, Best, LineBytes, HeadE, ShapeE, EachE, Onward, Inside, Walked, Last};
 use crate::fresh::first_waiting;
+use crate::order::order_of;
 use crate::search::note;
 use crate::shape::made;
 use crate::shape::next_fire;
@@ -205,13 +207,13 @@ fn note_shape(
     kinds: &[u16; 321],
     shape: usize,
     index: &[u16; 17792],
-    firings: &mut [u16; 2048],
-    targets: &mut [u16; 2048],
+    firings: &mut [u16; 1024],
+    targets: &mut [u16; 1024],
 ) -> usize
     requires { ⌜ TableFits (now table) rules × (length (now index) ≡ 17792) × (shape < 17792) × ShapeFits (shapeAt shape) × Onward (now table) rules (now index) 3584 shape × ByKind (now table) rules (now kinds)
-        × (length (now firings) ≡ 2048) × (length (now targets) ≡ 2048) ⌝ }
-    ensures { λ k. ⌜ (length (now (firings .exit)) ≡ 2048) × (length (now (targets .exit)) ≡ 2048)
-        × ShapeNotes (now (table .entry)) rules (now (index .entry)) (now (firings .exit)) (now (targets .exit)) shape 0 k ⌝ }
+        × (length (now firings) ≡ 1024) × (length (now targets) ≡ 1024) ⌝ }
+    ensures { λ k. ⌜ (length (now (firings .exit)) ≡ 1024) × (length (now (targets .exit)) ≡ 1024)
+        × (k ≤ 1024) × ShapeNotes (now (table .entry)) rules (now (index .entry)) (now (firings .exit)) (now (targets .exit)) shape 0 k ⌝ }
 {
     let kind = shape / 278 + 1;
     let digits = sheet::digits(shape % 278 + 1);
@@ -236,8 +238,8 @@ fn follow_noted(
     table: &[u8; 16384],
     n: usize,
     s: usize,
-    firings: &[u16; 2048],
-    targets: &[u16; 2048],
+    firings: &[u16],
+    targets: &[u16],
     first: usize,
     end: usize,
     generations: &mut [[u16; 7]; 512],
@@ -246,7 +248,7 @@ fn follow_noted(
     waiting: &mut [u8; 512],
     before: usize,
 ) -> usize
-    requires { ⌜ (length (now table) ≡ 16384) × (length (now firings) ≡ 2048) × (length (now targets) ≡ 2048) × (first ≤ end) × (end ≤ 2048) × ((k : ℕ) → first ≤ k → k < end → NoteFits (now table) (now firings) (now targets) n k) × Live n (now generations) (now from) (now links) (now waiting) before × (7 * s + 7 ≤ n) ⌝ }
+    requires { ⌜ (length (now table) ≡ 16384) × (length (now targets) ≡ length (now firings)) × (first ≤ end) × (end ≤ length (now firings)) × ((k : ℕ) → first ≤ k → k < end → NoteFits (now table) (now firings) (now targets) n k) × Live n (now generations) (now from) (now links) (now waiting) before × (7 * s + 7 ≤ n) ⌝ }
     ensures { λ r. ⌜ Done n (NotesE (now (table .entry)) (now (firings .entry)) (now (targets .entry)) s first end) (now (generations .entry)) (now (from .entry)) (now (links .entry)) (now (waiting .entry)) before (now (generations .exit)) (now (from .exit)) (now (links .exit)) (now (waiting .exit)) r ⌝ }
 {
     let mut last = before;
@@ -278,8 +280,8 @@ fn follow_shape(
     kinds: &[u16; 321],
     shape: usize,
     index: &[u16; 17792],
-    firings: &[u16; 2048],
-    targets: &[u16; 2048],
+    firings: &[u16],
+    targets: &[u16],
     starts: &[u32; 513],
     n: usize,
     s: usize,
@@ -290,11 +292,12 @@ fn follow_shape(
     before: usize,
 ) -> usize
     requires { ⌜ TableFits (now table) rules × (length (now index) ≡ 17792) × (shape < 17792) × ShapeFits (shapeAt shape) × Onward (now table) rules (now index) n shape × Live n (now generations) (now from) (now links) (now waiting) before × (7 * s + 7 ≤ n) × ByKind (now table) rules (now kinds)
-        × (length (now firings) ≡ 2048) × (length (now targets) ≡ 2048) × (length (now starts) ≡ 513)
-        × (getD (now starts) (s + 1) 0 ≤ 2048 → ShapeNotes (now table) rules (now index) (now firings) (now targets) shape (getD (now starts) s 0) (getD (now starts) (s + 1) 0)) ⌝ }
+        × (length (now firings) ≤ 8192) × (length (now targets) ≡ length (now firings)) × (length (now starts) ≡ 513)
+        × (getD (now starts) (s + 1) 0 ≤ length (now firings) → ShapeNotes (now table) rules (now index) (now firings) (now targets) shape (getD (now starts) s 0) (getD (now starts) (s + 1) 0)) ⌝ }
     ensures { λ r. ⌜ Done n (ShapeE (now (table .entry)) rules (now (index .entry)) shape s) (now (generations .entry)) (now (from .entry)) (now (links .entry)) (now (waiting .entry)) before (now (generations .exit)) (now (from .exit)) (now (links .exit)) (now (waiting .exit)) r ⌝ }
 {
-    if starts[s + 1] <= 2048 {
+    let room = firings.len() as u32;
+    if starts[s + 1] <= room {
         return follow_noted(
             table,
             n,
@@ -310,8 +313,8 @@ fn follow_shape(
             before,
         );
     }
-    let mut firings_here = [0u16; 2048];
-    let mut targets_here = [0u16; 2048];
+    let mut firings_here = [0u16; 1024];
+    let mut targets_here = [0u16; 1024];
     let end = note_shape(
         table,
         rules,
@@ -337,29 +340,31 @@ fn follow_shape(
     )
 }
 
-// Follows the links of each waiting shape once. Answers what was raised last.
+// Follows the links of each waiting shape once, the shapes in this order. Answers what was raised last.
 fn sweep(
     table: &[u8; 16384],
     rules: usize,
     kinds: &[u16; 321],
     shapes: &[u32; 512],
     index: &[u16; 17792],
-    firings: &[u16; 2048],
-    targets: &[u16; 2048],
+    firings: &[u16],
+    targets: &[u16],
     starts: &[u32; 513],
+    order: &[u16; 512],
     count: usize,
     generations: &mut [[u16; 7]; 512],
     from: &mut [[u16; 7]; 512],
     links: &mut [[u16; 7]; 512],
     waiting: &mut [u8; 512],
 ) -> usize
-    requires { ⌜ TableFits (now table) rules × Closed (tableRules (now table) rules) (now shapes) (now index) count × Live (7 * count) (now generations) (now from) (now links) (now waiting) 0 × ((u v link : ℕ) → EachE (now table) rules (now shapes) (now index) count u v link → Rests (now generations) (now waiting) u v link) × ByKind (now table) rules (now kinds) × Noted (now table) rules (now shapes) (now index) (now firings) (now targets) (now starts) count ⌝ }
+    requires { ⌜ TableFits (now table) rules × Closed (tableRules (now table) rules) (now shapes) (now index) count × Live (7 * count) (now generations) (now from) (now links) (now waiting) 0 × ((u v link : ℕ) → EachE (now table) rules (now shapes) (now index) count u v link → Rests (now generations) (now waiting) u v link) × ByKind (now table) rules (now kinds) × Noted (now table) rules (now shapes) (now index) (now firings) (now targets) (now starts) count × Ordered (now order) count ⌝ }
     ensures { λ r. ⌜ Swept (7 * count) (EachE (now (table .entry)) rules (now (shapes .entry)) (now (index .entry)) count) count (now (generations .entry)) (now (from .entry)) (now (links .entry)) (now (generations .exit)) (now (from .exit)) (now (links .exit)) (now (waiting .exit)) r ⌝ }
 {
     let n = 7 * count;
     let mut last: usize = 0;
-    let mut s: usize = 0;
-    while s < count {
+    let mut i: usize = 0;
+    while i < count {
+        let s = order[i] as usize;
         if waiting[s] == 1 {
             waiting[s] = 0;
             last = follow_shape(
@@ -380,7 +385,7 @@ fn sweep(
                 last,
             );
         }
-        s += 1;
+        i += 1;
     }
     last
 }
@@ -417,8 +422,8 @@ pub(crate) fn spread(
     kinds: &[u16; 321],
     shapes: &[u32; 512],
     index: &[u16; 17792],
-    firings: &[u16; 2048],
-    targets: &[u16; 2048],
+    firings: &[u16],
+    targets: &[u16],
     starts: &[u32; 513],
     count: usize,
     generations: &mut [[u16; 7]; 512],
@@ -430,6 +435,7 @@ pub(crate) fn spread(
 {
     let n = 7 * count;
     let mut waiting = first_waiting(table, rules, shapes, count);
+    let order = order_of(&waiting, targets, starts, count);
     let mut turning: usize = 0;
     loop {
         let last = sweep(
@@ -441,6 +447,7 @@ pub(crate) fn spread(
             firings,
             targets,
             starts,
+            &order,
             count,
             generations,
             from,

@@ -11,10 +11,10 @@ ghost use mathlib.Core.Path.{_≡_};
 ghost use mathlib.Core.List.{[], _∷_};
 ghost use Prim.Native.Nat.{_+_, _*_, _≤_, _<_};
 ghost use lib.ListN.{length, getD};
-ghost use Rattle.judging.specs.Table.{SheetHeld, linesIn, rulesIn, tableRules, MarksFit, HeadFits, RuleFits, TableFits};
-ghost use Rattle.judging.specs.Bytes.{marksAt, headAt, headsAt, ruleAt, LineIn, LinesIn, headCount, lineByte, Blank, Part, markByte, placeByte, PlacesFit, sourcesWith, HeadsPut, RowPut};
+ghost use Rattle.judging.specs.inner.Table.{SheetHeld, linesIn, rulesIn, tableRules, MarksFit, HeadFits, RuleFits, TableFits};
+ghost use Rattle.judging.specs.inner.Bytes.{marksAt, headAt, headsAt, ruleAt, LineIn, LinesIn, headCount, lineByte, Blank, Part, markByte, placeByte, PlacesFit, sourcesWith, HeadsPut, RowPut};
 
-fn wide(x: u32) -> usize
+pub(crate) fn wide(x: u32) -> usize
     ensures { λ r. ⌜ r ≡ x ⌝ }
 {
     x as usize

@@ -2,11 +2,11 @@
 ghost use mathlib.Core.Path.{_≡_};
 ghost use Prim.Native.Nat.{_+_, _*_, _≤_, _<_};
 ghost use lib.ListN.{length, getD};
-ghost use Rattle.judging.specs.Nodes.{at, back, Grid};
-ghost use Rattle.judging.specs.Written.{putSteps, oneStep, lineTo, wayTo, wayBack, Falls, WayLength, Deepest, InTurn, TurnLength, InLine, LineLength, StaysBelow};
+ghost use Rattle.judging.specs.inner.Nodes.{at, back, Grid};
+ghost use Rattle.judging.specs.inner.Written.{putSteps, oneStep, lineTo, wayTo, wayBack, Falls, WayLength, Deepest, InTurn, TurnLength, InLine, LineLength, StaysBelow};
 use crate::spread::number;
 
-fn wide(x: u16) -> usize
+pub(crate) fn wide(x: u16) -> usize
     ensures { λ r. ⌜ r ≡ x ⌝ }
 {
     x as usize

@@ -1,6 +1,6 @@
 -- Laws of membership, and of numbers in so many places. Assumes nothing.
 use mathlib.Core.Path.{_≡_, refl, ap}
-use mathlib.Core.Logic.{inl, inr}
+use mathlib.Core.Logic.{_⊎_, inl, inr}
 use mathlib.Core.List.{List, [], _∷_, _++_, map}
 use Prim.Native.Nat.{ℕ, zero, suc, _<_}
 use native.Mathlib.Omega.{arith}
@@ -22,6 +22,18 @@ pub in-map : {A B : Type 0} (f : A → B) (x : A) (l : List A) → In x l → In
 in-map f x [] i = absurd i
 in-map f x (y ∷ l) (inl p) = inl (ap f p)
 in-map f x (y ∷ l) (inr i) = inr (in-map f x l i)
+
+pub in-append : {A : Type 0} (x : A) (xs ys : List A) → In x (xs ++ ys) → In x xs ⊎ In x ys
+in-append x [] ys i = inr i
+in-append x (z ∷ xs) ys (inl p) = inl (inl p)
+in-append x (z ∷ xs) ys (inr i) = elim (in-append x xs ys i) [ inl j ↦ inl (inr j) | inr j ↦ inr j ]
+
+pub map-in : {A B : Type 0} (f : A → B) (l : List A) (y : B) → In y (map f l) → (x : A) × In x l × (y ≡ f x)
+map-in f [] y i = absurd i
+map-in f (x ∷ l) y (inl p) = (x, inl refl, p)
+map-in f (x ∷ l) y (inr i) =
+    let s = map-in f l y i in
+    (s .0, inr (s .1), s .2)
 
 -- What stands at a place of a list is in it.
 pub in-getD : {A : Type 0} (l : List A) (k : ℕ) (e : A) → k < length l → In (getD l k e) l

@@ -1,7 +1,7 @@
 -- Laws of `index`, `add`, `addAll` and `pattern`, over any type whose equality is decided. Assumes nothing.
 use mathlib.Core.Path.{_≡_, refl, sym, _∙_, ap, ap₂, subst, subst₂}
 use mathlib.Core.Logic.{_⊎_, inl, inr, _↔_}
-use mathlib.Core.List.{List, [], _∷_, map}
+use mathlib.Core.List.{List, [], _∷_, _++_, map}
 use Prim.Native.Nat.{ℕ, zero, suc, _+_, _≤_, _<_, max}
 use native.Mathlib.Nat.{add-zero, zero-add, add-suc, suc-add}
 use native.Mathlib.Omega.{arith}
@@ -81,6 +81,22 @@ module _ {A : Type 0} (d : Discrete A) where
       go : (p : Dec (x ≡ z)) → index d x l ≤ length l → pick p zero (suc (index d x l)) ≤ suc (length l)
       go (yes p) ih = omega arith
       go (no h) ih = omega arith
+
+  -- The place in joined lists.
+  pub index-left : (x : A) (xs ys : List A) → In x xs → index d x (xs ++ ys) ≡ index d x xs
+  index-left x [] ys m = absurd m
+  index-left x (z ∷ xs) ys m = go (d x z) (λ k. index-left x xs ys k) m
+    where
+      go : (p : Dec (x ≡ z)) → (In x xs → index d x (xs ++ ys) ≡ index d x xs) → (x ≡ z) ⊎ In x xs
+          → pick p zero (suc (index d x (xs ++ ys))) ≡ pick p zero (suc (index d x xs))
+      go (yes p) ih m = refl
+      go (no h) ih (inl p) = absurd (h p)
+      go (no h) ih (inr m) = ap suc (ih m)
+
+  pub index-right : (x : A) (xs ys : List A) → (In x xs → ⊥) → index d x (xs ++ ys) ≡ length xs + index d x ys
+  index-right x [] ys n = sym (zero-add (index d x ys))
+  index-right x (z ∷ xs) ys n =
+      pick-no _ _ (d x z) (λ e. n (inl e)) ∙ ap suc (index-right x xs ys (λ m. n (inr m))) ∙ sym (suc-add (length xs) (index d x ys))
 
   -- What stands at an element's place is the element.
   pub getD-index : (x : A) (l : List A) (e : A) → In x l → getD l (index d x l) e ≡ x
@@ -227,6 +243,13 @@ module _ {A : Type 0} (d : Discrete A) where
       go [] k h = let z : ⊥ = omega arith in absurd z
       go (y ∷ ys) zero h = refl
       go (y ∷ ys) (suc k) h = go ys k (omega arith)
+
+-- A map that keeps different elements different keeps places.
+pub index-map : {A B : Type 0} (dA : Discrete A) (dB : Discrete B) (f : A → B) → ((x y : A) → f x ≡ f y → x ≡ y) → (x : A) (l : List A)
+    → index dB (f x) (map f l) ≡ index dA x l
+index-map dA dB f inj x [] = refl
+index-map dA dB f inj x (y ∷ l) =
+    rw (index-map dA dB f inj x l) (pick-iff zero (suc (index dA x l)) (inj x y) (ap f) (dB (f x) (f y)) (dA x y))
 
 -- A pattern depends on nothing but which places are equal.
 module _ {I A B : Type 0} (dA : Discrete A) (dB : Discrete B) (g : I → A) (h : I → B) (P : I → Type 0)

@@ -1,32 +1,19 @@
--- The rule of the 278 patterns, by one computed test; that none is missing; and that a pattern's number is one more than the count of those
--- before it. Assumes nothing.
+-- A pattern's number is one more than the count of those before it, and a record's digits are a pattern. Assumes nothing.
 use mathlib.Core.Path.{_≡_, refl, sym, _∙_, ap, ap₂, subst}
-use mathlib.Core.Bool.{Bool, true, false, _&&_}
-use mathlib.Core.Logic.{⊎-elim, inl}
-use mathlib.Core.List.{List, [], _∷_, map}
+use mathlib.Core.Logic.{⊎-elim}
+use mathlib.Core.List.{List, [], _∷_, _++_, map}
 use Prim.Native.Nat.{ℕ, zero, suc, _+_, _-_, _*_, _<_, _≤_, min, max}
-use native.Mathlib.Nat.{add-zero, zero-add, add-suc, suc-add, eq-or-lt-of-le}
+use native.Mathlib.Nat.{zero-mul, suc-mul, eq-or-lt-of-le}
 use native.Mathlib.Decide.{ℕ-discrete, decLt}
 use native.Mathlib.Omega.{arith}
-use lib.Dec.{T, leb, eqb, leb→le, le→leb, eqb→eq}
-use lib.ListN.{length, getD}
+use lib.Dec.{T}
+use lib.ListN.{length, getD, length-append, length-map}
 use Rattle.patterns.specs.Lists.{In}
 use Rattle.patterns.specs.Pattern.{index, add, pattern, led, goingOn, patternsTo, patterns, lists-discrete, numberOf}
-use Rattle.patterns.specs.PatternTable.{appears, lower, earlier, Pattern}
-use Rattle.patterns.proofs.ListLaws.{in-left, in-right, in-map}
-use Rattle.patterns.proofs.PatternLaws.{digitsFrom, pattern-from, length-pattern, length-add, index-le, index-lt, in-index, getD-index, index-add, index-add-self, index-add-other}
-
-pub both-left : (a b : Bool) → T (a && b) → T a
-both-left true b t = tt
-both-left false b t = t
-
-pub both-right : (a b : Bool) → T (a && b) → T b
-both-right true b t = t
-both-right false b t = absurd t
-
-pub both : (a b : Bool) → T a → T b → T (a && b)
-both true b s t = t
-both false b s t = absurd s
+use Rattle.patterns.specs.PatternTable.{appears, Pattern}
+use Rattle.patterns.proofs.ListLaws.{in-map, map-in}
+use Rattle.patterns.proofs.PatternLaws.{pick-yes, digitsFrom, pattern-from, length-pattern, length-add, index-le, index-lt, index-left, index-right, index-map, in-index, getD-index, index-add, index-add-self, index-add-other}
+use Rattle.patterns.proofs.PatternList.{appears-cons, appears-parts, in-goingOn, in-patternsTo, listed, patternsTo-in}
 
 -- In how many ways n fields can go on by first appearance after digits up to m: with one of the m digits, or with the next.
 unfoldable pub ways : ℕ → ℕ → ℕ
@@ -51,98 +38,126 @@ pub rankFrom-grows : (m count : ℕ) (ds : List ℕ) → count ≤ rankFrom m co
 rankFrom-grows m count [] = omega arith
 rankFrom-grows m count (d ∷ ds) = omega (arith, rankFrom-grows (max m d) (count + (d - 1) * ways (length ds) m) ds)
 
--- THE TEST. Of pattern p at place k, after the pattern `before`: the order, the digits and the number.
-unfoldable digits-right : List ℕ → Bool
-digits-right p = appears 0 p && (leb 1 (length p) && leb (length p) 6)
+-- HOW MANY there are.
+length-led : (rest : ℕ → List (List ℕ)) (w v k d : ℕ) → ((j : ℕ) → d ≤ j → j < d + k → length (rest j) ≡ w)
+    → ((j : ℕ) → j ≡ d + k → length (rest j) ≡ v) → length (led rest d (suc k)) ≡ k * w + v
+unfolding led
+length-led rest w v zero d h last =
+    length-append (map (λ (p : List ℕ). d ∷ p) (rest d)) []
+    ∙ omega (arith, length-map (rest d) (λ (p : List ℕ). d ∷ p), last d (omega arith), zero-mul w)
+length-led rest w v (suc k) d h last =
+    length-append (map (λ (p : List ℕ). d ∷ p) (rest d)) (led rest (suc d) (suc k))
+    ∙ omega (
+      arith,
+      length-map (rest d) (λ (p : List ℕ). d ∷ p),
+      h d (omega arith) (omega arith),
+      length-led rest w v k (suc d) (λ j lo hi. h j (omega arith) (omega arith)) (λ j e. last j (omega arith)),
+      suc-mul k w,
+    )
 
-unfoldable right : ℕ → List ℕ → List ℕ → Bool
-right k before p = digits-right p && (earlier before p && eqb (rank p) (suc k))
+length-goingOn : (n m : ℕ) → length (goingOn n m) ≡ ways n m
+unfolding goingOn ways
+length-goingOn zero m = refl
+length-goingOn (suc n) m =
+    length-led (λ (d : ℕ). goingOn n (max m d)) (ways n m) (ways n (suc m)) m 1
+    (λ j lo hi. length-goingOn n (max m j) ∙ ap (ways n) (omega arith))
+    (λ j e. length-goingOn n (max m j) ∙ ap (ways n) (omega arith))
 
-unfoldable all-right : ℕ → List ℕ → List (List ℕ) → Bool
-all-right k before [] = true
-all-right k before (p ∷ ps) = right k before p && all-right (suc k) p ps
-
-passes : T (all-right 0 [] patterns)
-unfolding all-right right digits-right earlier lower appears first ways patterns patternsTo goingOn led
-passes = tt
+length-patternsTo : (n : ℕ) → suc (length (patternsTo n)) ≡ first (suc n)
+unfolding patternsTo first
+length-patternsTo zero = refl
+length-patternsTo (suc n) =
+    omega (arith, length-append (patternsTo n) (goingOn (suc n) 0), length-goingOn (suc n) 0, length-patternsTo n)
 
 pub count : length patterns ≡ 278
-unfolding patterns patternsTo goingOn led
-count = refl
+unfolding patterns first ways
+count = let e : suc (length (patternsTo 6)) ≡ 279 = length-patternsTo 6 in omega arith
 
-right-from : (k : ℕ) (before : List ℕ) (ps : List (List ℕ)) → T (all-right k before ps) → (j : ℕ) → j < length ps
-    → T (right (k + j) (getD (before ∷ ps) j []) (getD ps j []))
-unfolding all-right
-right-from k before [] t j h = let z : ⊥ = omega arith in absurd z
-right-from k before (p ∷ ps) t zero h = rw add-zero (both-left (right k before p) (all-right (suc k) p ps) t)
-right-from k before (p ∷ ps) t (suc j) h =
-    subst (λ (n : ℕ). T (right n (getD (p ∷ ps) j []) (getD ps j []))) (suc-add k j ∙ sym (add-suc k j))
-    (right-from (suc k) p ps (both-right (right k before p) (all-right (suc k) p ps) t) j (omega arith))
+-- THE PLACE of a pattern among those of its length, and among all.
+abbrev lists : Discrete (List ℕ)
+lists = lists-discrete ℕ-discrete
 
--- What the test says of one place.
-pub record Right (k : ℕ) (before p : List ℕ) : Type 0 where
-  pub digits : Pattern p
-  pub order : T (earlier before p)
-  pub number : rank p ≡ suc k
+index-cons : (d : ℕ) (p : List ℕ) (l : List (List ℕ)) → index lists (d ∷ p) (map (λ (q : List ℕ). d ∷ q) l) ≡ index lists p l
+index-cons d p l = index-map lists lists (λ (q : List ℕ). d ∷ q) (λ x y e. cc) p l
 
-right-digits : (p : List ℕ) → T (digits-right p) → Pattern p
-unfolding digits-right
-right-digits p t =
-    let u = both-right (appears 0 p) (leb 1 (length p) && leb (length p) 6) t in
-    record {
-      some = leb→le 1 (length p) (both-left (leb 1 (length p)) (leb (length p) 6) u);
-      most = leb→le (length p) 6 (both-right (leb 1 (length p)) (leb (length p) 6) u);
-      digits = both-left (appears 0 p) (leb 1 (length p) && leb (length p) 6) t;
-    }
+-- A list with the first of the leading digits, and one with a later.
+first-led : (rest : ℕ → List (List ℕ)) (w d j : ℕ) (p : List ℕ) (l : List (List ℕ)) → d ≡ j → In p (rest j)
+    → index lists (j ∷ p) (map (λ (q : List ℕ). d ∷ q) (rest d) ++ l) ≡ (j - d) * w + index lists p (rest j)
+first-led rest w d j p l e m =
+    subst (λ (k : ℕ). index lists (j ∷ p) (map (λ (q : List ℕ). k ∷ q) (rest k) ++ l) ≡ (j - k) * w + index lists p (rest j)) (sym e)
+    (index-left lists (j ∷ p) (map (λ (q : List ℕ). j ∷ q) (rest j)) l (in-map (λ (q : List ℕ). j ∷ q) p (rest j) m)
+    ∙ index-cons j p (rest j)
+    ∙ omega (arith, ap (λ (n : ℕ). n * w) (none j), zero-mul w))
+  where
+    none : (k : ℕ) → k - k ≡ 0
+    none k = omega arith
 
-pub right-at : (k : ℕ) → k < 278 → Right k (getD ([] ∷ patterns) k []) (getD patterns k [])
-unfolding right
-right-at k h =
-    let before = getD ([] ∷ patterns) k [] in
-    let p = getD patterns k [] in
-    let t : T (right k before p) = subst (λ (n : ℕ). T (right n before p)) (zero-add k) (right-from 0 [] patterns passes k (omega (arith, count))) in
-    let u = both-right (digits-right p) (earlier before p && eqb (rank p) (suc k)) t in
-    record {
-      digits = right-digits p (both-left (digits-right p) (earlier before p && eqb (rank p) (suc k)) t);
-      order = both-left (earlier before p) (eqb (rank p) (suc k)) u;
-      number = eqb→eq (rank p) (suc k) (both-right (earlier before p) (eqb (rank p) (suc k)) u);
-    }
+later-led : (rest : ℕ → List (List ℕ)) (w d j : ℕ) (p : List ℕ) (l : List (List ℕ)) → d < j → length (rest d) ≡ w
+    → index lists (j ∷ p) (map (λ (q : List ℕ). d ∷ q) (rest d) ++ l) ≡ w + index lists (j ∷ p) l
+later-led rest w d j p l b e =
+    index-right lists (j ∷ p) (map (λ (q : List ℕ). d ∷ q) (rest d)) l other
+    ∙ ap (λ (n : ℕ). n + index lists (j ∷ p) l) (length-map (rest d) (λ (q : List ℕ). d ∷ q) ∙ e)
+  where
+    other : In (j ∷ p) (map (λ (q : List ℕ). d ∷ q) (rest d)) → ⊥
+    other i =
+        let s = map-in (λ (q : List ℕ). d ∷ q) (rest d) (j ∷ p) i in
+        let f = s .2 in
+        let g : j ≡ d = cc in
+        omega arith
 
--- NONE IS MISSING.
-in-led : (rest : ℕ → List (List ℕ)) (n d j : ℕ) (p : List ℕ) → d ≤ j → j < d + n → In p (rest j) → In (j ∷ p) (led rest d n)
+gap : (d j : ℕ) → d < j → j - d ≡ suc (j - suc d)
+gap d j l = omega arith
+
+index-led : (rest : ℕ → List (List ℕ)) (w k d j : ℕ) (p : List ℕ) → d ≤ j → j < d + k → In p (rest j)
+    → ((i : ℕ) → d ≤ i → i < j → length (rest i) ≡ w) → index lists (j ∷ p) (led rest d k) ≡ (j - d) * w + index lists p (rest j)
 unfolding led
-in-led rest zero d j p lo hi m = let z : ⊥ = omega arith in absurd z
-in-led rest (suc n) d j p lo hi m =
+index-led rest w zero d j p lo hi m h = let z : ⊥ = omega arith in absurd z
+index-led rest w (suc k) d j p lo hi m h =
     ⊎-elim
-    (λ (e : d ≡ j).
-    in-left (j ∷ p) (map (λ (q : List ℕ). d ∷ q) (rest d)) (led rest (suc d) n)
-    (subst (λ (k : ℕ). In (j ∷ p) (map (λ (q : List ℕ). k ∷ q) (rest k))) (sym e) (in-map (λ (q : List ℕ). j ∷ q) p (rest j) m)))
+    (λ (e : d ≡ j). first-led rest w d j p (led rest (suc d) k) e m)
     (λ (l : d < j).
-    in-right (j ∷ p) (map (λ (q : List ℕ). d ∷ q) (rest d)) (led rest (suc d) n) (in-led rest n (suc d) j p l (omega arith) m))
+    later-led rest w d j p (led rest (suc d) k) l (h d (omega arith) l)
+    ∙ ap (λ (n : ℕ). w + n) (index-led rest w k (suc d) j p l (omega arith) m (λ i a b. h i (omega arith) b))
+    ∙ omega (arith, ap (λ (n : ℕ). n * w) (gap d j l), suc-mul (j - suc d) w))
     (eq-or-lt-of-le lo)
 
-in-goingOn : (p : List ℕ) (m : ℕ) → T (appears m p) → In p (goingOn (length p) m)
-unfolding appears goingOn
-in-goingOn [] m t = inl refl
-in-goingOn (d ∷ ds) m t =
-    let u = both-left (leb 1 d && leb d (suc m)) (appears (max m d) ds) t in
-    let lo : 1 ≤ d = leb→le 1 d (both-left (leb 1 d) (leb d (suc m)) u) in
-    let hi : d ≤ suc m = leb→le d (suc m) (both-right (leb 1 d) (leb d (suc m)) u) in
-    in-led (λ (k : ℕ). goingOn (length ds) (max m k)) (suc m) 1 d ds lo (omega arith)
-    (in-goingOn ds (max m d) (both-right (leb 1 d && leb d (suc m)) (appears (max m d) ds) t))
+rank-goingOn : (p : List ℕ) (m c : ℕ) → T (appears m p) → rankFrom m c p ≡ c + index lists p (goingOn (length p) m)
+unfolding goingOn
+rank-goingOn [] m c t = omega (arith, pick-yes zero 1 (lists [] []) refl)
+rank-goingOn (d ∷ ds) m c t =
+    let s = appears-parts m d ds t in
+    let n = length ds in
+    let hi = s .1 in
+    rank-goingOn ds (max m d) (c + (d - 1) * ways n m) (s .2)
+    ∙ omega (
+      arith,
+      index-led (λ (k : ℕ). goingOn n (max m k)) (ways n m) (suc m) 1 d ds (s .0) (omega arith) (in-goingOn ds (max m d) (s .2))
+          (λ i a b. length-goingOn n (max m i) ∙ ap (ways n) (omega arith)),
+    )
 
-in-patternsTo : (p : List ℕ) (n k : ℕ) → 1 ≤ n → n ≤ k → In p (goingOn n 0) → In p (patternsTo k)
+index-patternsTo : (p : List ℕ) (k : ℕ) → 1 ≤ length p → length p ≤ k → In p (goingOn (length p) 0)
+    → suc (index lists p (patternsTo k)) ≡ first (length p) + index lists p (goingOn (length p) 0)
 unfolding patternsTo
-in-patternsTo p n zero lo hi m = let z : ⊥ = omega arith in absurd z
-in-patternsTo p n (suc k) lo hi m =
+index-patternsTo p zero lo hi m = let z : ⊥ = omega arith in absurd z
+index-patternsTo p (suc k) lo hi m =
     ⊎-elim
-    (λ (e : n ≡ suc k). in-right p (patternsTo k) (goingOn (suc k) 0) (subst (λ (j : ℕ). In p (goingOn j 0)) e m))
-    (λ (l : n < suc k). in-left p (patternsTo k) (goingOn (suc k) 0) (in-patternsTo p n k lo (omega arith) m))
+    (λ (e : length p ≡ suc k).
+    subst (λ (n : ℕ). suc (index lists p (patternsTo k ++ goingOn (suc k) 0)) ≡ first n + index lists p (goingOn n 0)) (sym e)
+    (omega (
+      arith,
+      index-right lists p (patternsTo k) (goingOn (suc k) 0) (λ i. omega (arith, patternsTo-in k p i .1)),
+      length-patternsTo k,
+    )))
+    (λ (l : length p < suc k).
+    ap suc (index-left lists p (patternsTo k) (goingOn (suc k) 0) (in-patternsTo p (length p) k lo (omega arith) m))
+    ∙ index-patternsTo p k lo (omega arith) m)
     (eq-or-lt-of-le hi)
 
-pub listed : (p : List ℕ) → Pattern p → In p patterns
-unfolding patterns
-listed p h = in-patternsTo p (length p) 6 (h .some) (h .most) (in-goingOn p 0 (h .digits))
+pub rank-number : (p : List ℕ) → Pattern p → rank p ≡ numberOf p
+unfolding numberOf patterns
+rank-number p h =
+    let m = in-goingOn p 0 (h .digits) in
+    rank-goingOn p 0 (first (length p)) (h .digits) ∙ sym (index-patternsTo p 6 (h .some) (h .most) m)
 
 -- The pattern's number is its place, and the count of those before it.
 pub record Placed (p : List ℕ) : Type 0 where
@@ -159,7 +174,7 @@ placed p h =
     let k = index (lists-discrete ℕ-discrete) p patterns in
     let l : k < 278 = omega (arith, count, index-lt (lists-discrete ℕ-discrete) p patterns m) in
     let e = getD-index (lists-discrete ℕ-discrete) p patterns [] m in
-    record { place = k; below = l; there = e; number = refl; counted = subst (λ (q : List ℕ). rank q ≡ suc k) e (right-at k l .number) }
+    record { place = k; below = l; there = e; number = refl; counted = rank-number p h }
 
 -- A record's digits are by first appearance.
 digits-appear : {A : Type 0} (d : Discrete A) (seen xs : List A) → T (appears (length seen) (digitsFrom d seen xs))
@@ -167,9 +182,7 @@ unfolding appears
 digits-appear d seen [] = tt
 digits-appear d seen (x ∷ xs) =
     let i = index d x seen in
-    both (leb 1 (suc i) && leb (suc i) (suc (length seen))) (appears (max (length seen) (suc i)) (digitsFrom d (add d x seen) xs))
-    (both (leb 1 (suc i)) (leb (suc i) (suc (length seen))) (le→leb 1 (suc i) (omega arith))
-    (le→leb (suc i) (suc (length seen)) (omega (arith, index-le d x seen))))
+    appears-cons (length seen) (suc i) (digitsFrom d (add d x seen) xs) (omega arith) (omega (arith, index-le d x seen))
     (subst (λ (n : ℕ). T (appears n (digitsFrom d (add d x seen) xs))) (length-add d x seen) (digits-appear d (add d x seen) xs))
 
 pub pattern-appears : {A : Type 0} (d : Discrete A) (xs : List A) → T (appears 0 (pattern d xs))
@@ -203,15 +216,13 @@ upto-add {seen} {m} d lo hi u = record { size = size; place = λ e l. place e l 
     place e l (no n) (no b) there = index-add-other ℕ-discrete d e seen n (omega (arith, u .size)) ∙ omega (arith, size)
 
 own-from : (seen p : List ℕ) (m : ℕ) → Upto seen m → T (appears m p) → digitsFrom ℕ-discrete seen p ≡ p
-unfolding appears
 own-from seen [] m u t = refl
 own-from seen (d ∷ ds) m u t =
-    let b = both-left (leb 1 d && leb d (suc m)) (appears (max m d) ds) t in
-    let lo : 1 ≤ d = leb→le 1 d (both-left (leb 1 d) (leb d (suc m)) b) in
-    let hi : d ≤ suc m = leb→le d (suc m) (both-right (leb 1 d) (leb d (suc m)) b) in
+    let s = appears-parts m d ds t in
+    let lo = s .0 in
+    let hi = s .1 in
     let here = u .place d lo in
-    ap₂ _∷_ (omega arith)
-    (own-from (add ℕ-discrete d seen) ds (max m d) (upto-add d lo hi u) (both-right (leb 1 d && leb d (suc m)) (appears (max m d) ds) t))
+    ap₂ _∷_ (omega arith) (own-from (add ℕ-discrete d seen) ds (max m d) (upto-add d lo hi u) (s .2))
 
 pub appears-own : (p : List ℕ) → T (appears 0 p) → pattern ℕ-discrete p ≡ p
 appears-own p t =

@@ -44,6 +44,10 @@ row-none table zero h = refl
 row-none table (suc k) (inl e) = let z : ⊥ = omega arith in absurd z
 row-none table (suc k) (inr l) = rw (lt-leb (6 * suc k) (length table) (omega arith))
 
+pub length-table : length patternTable ≡ 1668
+unfolding patternTable
+length-table = length-rows patterns ∙ omega (arith, count)
+
 -- THE ROWS. The rows of the table of patterns are the patterns' digits.
 pub table-rows : (number : ℕ) → digitsIn patternTable number ≡ digitsOf number
 unfolding patternTable digitsOf
@@ -51,7 +55,7 @@ table-rows zero = refl
 table-rows (suc k) = by-cases (decLe (suc k) 278) there none
   where
     size : length (rows patterns) ≡ 1668
-    size = length-rows patterns ∙ omega (arith, count)
+    size = length-table
 
     there : suc k ≤ 278 → digitsIn (rows patterns) (suc k) ≡ padded 6 (getD patterns k [])
     there h = rw (le-leb (6 * suc k) (length (rows patterns)) (omega (arith, size))) (rows-row patterns k (omega (arith, count)))

@@ -9,12 +9,17 @@ use borrow.Author.Tests.{eq-eqb, ne-eqb, lt-ltb, le-ltb}
 use lib.Dec.{T}
 use lib.ListN.{length, getD}
 use Rattle.patterns.specs.Outcome.{good, refused, padded}
-use Rattle.patterns.specs.Pattern.{pattern, patterns, patternsTo, goingOn, led, lists-discrete, numberOf, patternOf, digitsOf}
-use Rattle.patterns.specs.PatternTable.{appears, earlier, Pattern}
-use Rattle.patterns.proofs.PatternLaws.{same-places, pattern-places}
-use Rattle.patterns.proofs.PatternRank.{count, right-at, placed, has-pattern, pattern-appears, appears-own}
+use Rattle.patterns.specs.Pattern.{index, pattern, patterns, patternsTo, goingOn, led, lists-discrete, numberOf, patternOf, digitsOf, patternTable, digitsIn}
+use Rattle.patterns.specs.PatternTable.{appears, earlier, Pattern, entriesOf, tableTest}
+use Rattle.patterns.proofs.ListLaws.{in-getD}
+use Rattle.patterns.proofs.PatternLaws.{same-places, pattern-places, index-lt, getD-index}
+use Rattle.patterns.proofs.PatternOrder.{up-next, up-index}
+use Rattle.patterns.proofs.PatternList.{patterns-in, patterns-up}
+use Rattle.patterns.proofs.PatternRank.{count, placed, has-pattern, pattern-appears, appears-own}
+use Rattle.patterns.proofs.PatternRows.{length-table, table-rows}
+use Rattle.patterns.proofs.PatternTest.{passed, entries-are, table-is}
 
--- THE TABLE. The contract of `digits` says that the constant's row for the number k + 1 is entry k of `patterns`, in six places.
+-- THE PATTERNS of the definitions. The contract of `digits` says that the digits of the number k + 1 are entry k, in six places.
 pub rows : (k : ℕ) → digitsOf (suc k) ≡ padded 6 (getD patterns k [])
 unfolding digitsOf
 rows k = refl
@@ -24,11 +29,11 @@ entries-278 = count
 
 -- Each entry stands before the next in document 01's order.
 pub entries-rise : (k : ℕ) → suc k < 278 → T (earlier (getD patterns k []) (getD patterns (suc k) []))
-entries-rise k h = right-at (suc k) h .order
+entries-rise k h = up-next patterns k patterns-up (omega (arith, count))
 
 -- Each entry has one to six digits, by first appearance.
 pub entries-appear : (k : ℕ) → k < 278 → Pattern (getD patterns k [])
-entries-appear k h = right-at k h .digits
+entries-appear k h = patterns-in (getD patterns k []) (in-getD patterns k [] (omega (arith, count)))
 
 -- Every list of one to six digits by first appearance is an entry.
 pub none-missing : (p : List ℕ) → Pattern p → (k : ℕ) × (k < 278) × (getD patterns k [] ≡ p)
@@ -47,10 +52,8 @@ own-pattern p t = appears-own p t
 
 -- THE NUMBERS. The entry at place k has the number k + 1.
 pub number-of-entry : (k : ℕ) → k < 278 → numberOf (getD patterns k []) ≡ suc k
-number-of-entry k h =
-    let r = right-at k h in
-    let p = placed (getD patterns k []) (r .digits) in
-    p .number ∙ sym (p .counted) ∙ r .number
+unfolding numberOf
+number-of-entry k h = ap suc (up-index (lists-discrete ℕ-discrete) patterns k patterns-up (omega (arith, count)))
 
 pub number-in-range : (p : List ℕ) → Pattern p → (1 ≤ numberOf p) × (numberOf p ≤ 278)
 number-in-range p h = let r = placed p h in omega (arith, r .number, r .below)
@@ -67,6 +70,43 @@ number-one-to-one p q g h e =
 pub digits-of-number : (p : List ℕ) → Pattern p → digitsOf (numberOf p) ≡ padded 6 p
 unfolding digitsOf
 digits-of-number p h = let r = placed p h in ap digitsOf (r .number) ∙ ap (padded 6) (r .there)
+
+-- THE TABLE. The contract of `tested_table` says that the constant passes `tableTest`. Every table that passes has 278 entries, in six
+-- places each,
+module _ (table : List ℕ) (passes : T (tableTest table)) where
+  pub table-278 : (length table ≡ 1668) × (length (entriesOf table) ≡ 278)
+  table-278 = (ap length (table-is table passes) ∙ length-table, ap length (entries-are table passes) ∙ count)
+
+  pub table-row : (k : ℕ) → digitsIn table (suc k) ≡ padded 6 (getD (entriesOf table) k [])
+  table-row k =
+      ap (λ (t : List ℕ). digitsIn t (suc k)) (table-is table passes)
+      ∙ table-rows (suc k)
+      ∙ rows k
+      ∙ ap (λ (l : List (List ℕ)). padded 6 (getD l k [])) (sym (entries-are table passes))
+
+  -- each before the next in document 01's order,
+  pub table-rises : (k : ℕ) → suc k < 278 → T (earlier (getD (entriesOf table) k []) (getD (entriesOf table) (suc k) []))
+  table-rises k h = up-next (entriesOf table) k (passed table passes .order) (omega (arith, table-278 .1))
+
+  -- each of one to six digits, by first appearance;
+  pub table-appears : (k : ℕ) → k < 278 → Pattern (getD (entriesOf table) k [])
+  table-appears k h =
+      passed table passes .digits (getD (entriesOf table) k []) (in-getD (entriesOf table) k [] (omega (arith, table-278 .1)))
+
+  -- every list of one to six digits by first appearance is an entry;
+  pub table-complete : (p : List ℕ) → Pattern p → (k : ℕ) × (k < 278) × (getD (entriesOf table) k [] ≡ p)
+  table-complete p h =
+      let i = passed table passes .has p h in
+      let d = lists-discrete ℕ-discrete in
+      (index d p (entriesOf table), omega (arith, index-lt d p (entriesOf table) i, table-278 .1), getD-index d p (entriesOf table) [] i)
+
+  -- the entry at place k is the pattern with the number k + 1;
+  pub table-numbers : (k : ℕ) → k < 278 → numberOf (getD (entriesOf table) k []) ≡ suc k
+  table-numbers k h = ap (λ (l : List (List ℕ)). numberOf (getD l k [])) (entries-are table passes) ∙ number-of-entry k h
+
+  -- and so it is the table that `pattern_table` promises.
+  pub table-one : table ≡ patternTable
+  table-one = table-is table passes
 
 -- RECORDS. A record of one to six numbers is numbered, any other is refused.
 pub numbered : (xs : List ℕ) → 1 ≤ length xs → length xs ≤ 6 → patternOf xs ≡ good (numberOf (pattern ℕ-discrete xs))

@@ -2,8 +2,10 @@
 ghost use mathlib.Core.Path.{_≡_};
 ghost use Prim.Native.Nat.{_+_, _<_, _≤_};
 ghost use native.Mathlib.Decide.{ℕ-discrete};
+ghost use lib.Dec.{T};
 ghost use lib.ListN.{length, getD, take, drop};
 ghost use Rattle.patterns.specs.Pattern.{index, patternOf, patternSays, digitsOf, patternTable, digitsIn};
+ghost use Rattle.patterns.specs.PatternTable.{tableTest};
 
 // What pattern answers: the number of the pattern, or that there is no number or more than six.
 pub enum PatternAnswer {
@@ -374,12 +376,18 @@ fn row(table: &[u8], at: usize) -> [u8; 6]
     ]
 }
 
-// The table of patterns. A constant array is built anew wherever it is named: who wants the digits of many patterns has the table once
-// and lends it to `digits_in`.
+// The constant, which passes the test of a table of patterns: the checker computes it.
+fn tested_table() -> [u8; 1668]
+    ensures { λ r. ⌜ T (tableTest r) ⌝ }
+{
+    PATTERNS
+}
+
+// The table of patterns. It is built anew at each call: who wants the digits of many patterns has it once and lends it to `digits_in`.
 pub fn pattern_table() -> [u8; 1668]
     ensures { λ r. ⌜ r ≡ patternTable ⌝ }
 {
-    PATTERNS
+    tested_table()
 }
 
 // Row `number` of a lent table, counted from 1, six places each; all 0 where it has no such row.
@@ -399,5 +407,6 @@ pub fn digits_in(table: &[u8], number: usize) -> [u8; 6]
 pub fn digits(number: usize) -> [u8; 6]
     ensures { λ r. ⌜ r ≡ digitsOf number ⌝ }
 {
-    digits_in(&PATTERNS, number)
+    let table = pattern_table();
+    digits_in(&table, number)
 }

@@ -7,9 +7,9 @@ use native.Mathlib.Omega.{arith}
 use borrow.Author.Tests.{eqb-true, leb-true}
 use lib.Dec.{eqb, leb}
 use lib.ListN.{length, getD, take, drop}
-use Rattle.patterns.specs.Outcome.{padded}
-use Rattle.sheet.specs.Line.{K, B, H, R, Line, known, withFields, formOf, formOfLine, lent}
-use Rattle.sheet.specs.Inner.{FieldsFit}
+use Rattle.patterns.specs.Outcome.{Outcome, good, refused, padded}
+use Rattle.sheet.specs.Line.{K, B, H, R, Line, formSays, known, withFields, formOf, formOfLine, lent}
+use Rattle.sheet.specs.inner.Promises.{FieldsFit}
 use Rattle.sheet.specs.declared.Form.{Form}
 use Rattle.sheet.specs.declared.Form.the-variants.{Kind, Body, Head, Row, Unknown}
 
@@ -40,6 +40,22 @@ FormSays f letter c = known f ≡ true → Fielded (letterOf f) (fieldsOf f) let
 
 unknown-says : (letter c : ℕ) → FormSays Unknown letter c
 unknown-says letter c k = absurd (false≢true k)
+
+-- Forms of which the same is said are the same.
+formSaid : Outcome (ℕ × ℕ) → Form
+formSaid (good (letter, n)) = cond (eqb letter K) Kind (cond (eqb letter B) (Body n) (cond (eqb letter H) (Head n) (Row n)))
+formSaid (refused number line) = Unknown
+
+said-back : (f : Form) → formSaid (formSays f) ≡ f
+unfolding formSaid
+said-back Kind = refl
+said-back (Body n) = refl
+said-back (Head n) = refl
+said-back (Row n) = refl
+said-back Unknown = refl
+
+pub formSays-one-to-one : (f g : Form) → formSays f ≡ formSays g → f ≡ g
+formSays-one-to-one f g e = sym (said-back f) ∙ ap formSaid e ∙ said-back g
 
 -- What holds of both arms holds of the chosen one.
 pub chosen : (P : Form → Type 0) (b : Bool) (x y : Form) → (b ≡ true → P x) → (b ≡ false → P y) → P (cond b x y)

@@ -13,8 +13,8 @@ use borrow.Author.Tests.{eqb-true, leb-true, eq-eqb, ne-eqb, le-leb, lt-leb}
 use Rattle.patterns.proofs.ListLaws.{length-padded}
 use Rattle.patterns.specs.Outcome.{padded}
 use Rattle.columns.specs.Column.{numberIn}
-use Rattle.sheet.specs.Line.{K, B, H, R, withFields, formOf, known, joined, numbersIn, lineWith, columnCount, lineIn, lent}
-use Rattle.sheet.specs.Inner.{ParsedAs}
+use Rattle.sheet.specs.Line.{K, B, H, R, withFields, formOf, formSays, known, joined, numbersIn, lineWith, columnCount, lineIn, lent}
+use Rattle.sheet.specs.inner.Promises.{ParsedAs}
 use Rattle.sheet.specs.declared.Form.{Form}
 use Rattle.sheet.specs.declared.Form.the-variants.{Kind, Body, Head, Row, Unknown}
 
@@ -166,14 +166,14 @@ column-wrong line columns letter c form w h e =
     ∙ rw (numbersIn-none columns c (drop 1 line) h (rw column-at e))
 
 pub parsed-unknown : (line : List ℕ) (form : Form) (numbers : List ℕ) → lineIn line ≡ none → form ≡ Unknown → ParsedAs (lineIn line) form numbers
-parsed-unknown line form numbers e h = rw e h
+parsed-unknown line form numbers e h = rw e (ap formSays h)
 
 parsed-read : (line : List ℕ) (columns letter : ℕ) (form : Form) (numbers read : List ℕ) → 1 ≤ columns → length read ≡ columns → form ≡ formOf letter columns
     → lineIn line ≡ lineWith letter (some read) → numbers ≡ letter ∷ padded 7 read → ParsedAs (lineIn line) form numbers
 unfolding lent
 parsed-read line columns letter form numbers [] low count form-is line-is numbers-are = absurd (omega arith)
 parsed-read line columns letter form numbers (n ∷ ns) low count form-is line-is numbers-are =
-    rw line-is (form-is ∙ ap (formOf letter) (sym count), numbers-are)
+    rw line-is (ap formSays (form-is ∙ ap (formOf letter) (sym count)), numbers-are)
 
 pub parsed-whole : (line : List ℕ) (columns letter c : ℕ) (form : Form) (numbers : List ℕ) → Whole line columns letter form → columns ≤ c → c ≤ columns
     → Filled line letter numbers c → ParsedAs (lineIn line) form numbers

@@ -3,7 +3,7 @@ use mathlib.Core.Path.{_≡_, refl, sym, _∙_, ap, ap₂, subst}
 use mathlib.Core.Bool.{Bool, true, false, cond, _&&_, false≢true, and-eq-true-iff}
 use mathlib.Core.List.{List, [], _∷_, _++_, map, append-assoc}
 use mathlib.Core.Option.{Option, none, some, Option·none-ne-some, Option·some-injective}
-use Prim.Native.Nat.{ℕ, zero, suc, _+_, _-_, _*_, _/_, _%_, _≤_, _<_}
+use Prim.Native.Nat.{ℕ, zero, suc, _+_, _-_, _*_, _/_, _%_, _≤_}
 use native.Mathlib.Omega.{arith}
 use borrow.Author.Tests.{leb-true, le-leb, eqb-true, eqb-false, eq-eqb, ne-eqb}
 use lib.Dec.{eqb, leb}
@@ -11,7 +11,8 @@ use lib.ListN.{length, getD, take, drop, length-append, take-append-drop, drop-o
 use lib.Seq.{take-at, drop-at, take-append-seam, drop-append-seam, getD-at, drop-cons, drop-drop}
 use Rattle.columns.specs.Column.{largestNumber, placeByte, places, column, numberIn}
 use Rattle.sheet.specs.Line.{Line, columns, render, textOf, formOf, known, inRange, formOfLine, wellFormed, joined, numbersIn, lineWith, columnCount, lineIn, lent}
-use Rattle.walker.specs.Walk.{longer, linesOf, after, lineLength}
+use Rattle.walker.specs.Walk.{linesOf, after, lineLength}
+use Rattle.walker.proofs.TextLines.{after-none, linesOf-split}
 use Rattle.patterns.proofs.ListLaws.{length-padded}
 use Rattle.columns.proofs.ColumnLaws.{length-column, numberIn-column, numberIn-is}
 
@@ -201,28 +202,6 @@ line-of-text l rest h =
 
 -- The lines of a text.
 
-split-step : (b : ℕ) (s : List ℕ) (t : Bool) (k : ℕ) → (0 < k → linesOf s ≡ take k s ∷ linesOf (drop k s)) → 0 < after t k
-    → cond t ((b ∷ []) ∷ linesOf s) (longer b (linesOf s)) ≡ take (after t k) (b ∷ s) ∷ linesOf (drop (after t k) (b ∷ s))
-split-step b s true k ih h = refl
-split-step b s false zero ih h = absurd (omega arith)
-split-step b s false (suc k) ih h = ap (longer b) (ih (omega arith))
-
-pub linesOf-split : (s : List ℕ) → 0 < lineLength s → linesOf s ≡ take (lineLength s) s ∷ linesOf (drop (lineLength s) s)
-linesOf-split [] h = absurd (omega arith)
-linesOf-split (b ∷ s) h = split-step b s (eqb b 10) (lineLength s) (linesOf-split s) h
-
-after-none : (t : Bool) (k : ℕ) → after t k ≡ 0 → (t ≡ false) × (k ≡ 0)
-after-none true k e = absurd (omega arith)
-after-none false zero e = (refl, refl)
-after-none false (suc k) e = absurd (omega arith)
-
-pub linesOf-last : (s : List ℕ) → 0 < length s → lineLength s ≡ 0 → linesOf s ≡ s ∷ []
-linesOf-last [] h e = absurd (omega arith)
-linesOf-last (b ∷ []) h e = rw (after-none (eqb b 10) 0 e .0)
-linesOf-last (b ∷ c ∷ s) h e =
-    let (p, q) = after-none (eqb b 10) (lineLength (c ∷ s)) e in
-    rw p (ap (longer b) (linesOf-last (c ∷ s) (omega arith) q))
-
 no-ten-after : (s : List ℕ) → lineLength s ≡ 0 → NoTen s
 no-ten-after [] e = tt
 no-ten-after (b ∷ s) e = let (p, q) = after-none (eqb b 10) (lineLength s) e in (p, no-ten-after s q)
@@ -256,21 +235,3 @@ Formed (l ∷ ls) = (wellFormed l ≡ true) × Formed ls
 pub linesOf-text : (ls : List Line) → Formed ls → linesOf (textOf ls) ≡ map render ls
 linesOf-text [] h = refl
 linesOf-text (l ∷ ls) h = linesOf-front l (textOf ls) (h .0) ∙ ap (λ r. render l ∷ r) (linesOf-text ls (h .1))
-
--- The lines one after the other are the text again.
-
-abbrev pub together : List (List ℕ) → List ℕ
-together [] = []
-together (s ∷ ss) = s ++ together ss
-
-together-longer : (b : ℕ) (ss : List (List ℕ)) → together (longer b ss) ≡ b ∷ together ss
-together-longer b [] = refl
-together-longer b (s ∷ ss) = refl
-
-together-step : (b : ℕ) (s : List ℕ) (t : Bool) → together (linesOf s) ≡ s → together (cond t ((b ∷ []) ∷ linesOf s) (longer b (linesOf s))) ≡ b ∷ s
-together-step b s true e = ap (λ r. b ∷ r) e
-together-step b s false e = together-longer b (linesOf s) ∙ ap (λ r. b ∷ r) e
-
-pub together-linesOf : (s : List ℕ) → together (linesOf s) ≡ s
-together-linesOf [] = refl
-together-linesOf (b ∷ s) = together-step b s (eqb b 10) (together-linesOf s)

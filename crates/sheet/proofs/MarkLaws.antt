@@ -9,7 +9,7 @@ use lib.Dec.{leb}
 use lib.ListN.{length, getD, take, drop}
 use lib.Seq.{drop-cons}
 use Rattle.sheet.specs.Sheet.{topMark, marksFrom}
-use Rattle.sheet.specs.Inner.{marksTop}
+use Rattle.sheet.specs.inner.Promises.{marksTop}
 
 -- The largest mark is at least what it began with.
 top-low : (m : ℕ) (ns : List ℕ) → m ≤ topMark m ns

@@ -10,7 +10,7 @@ use lib.ListN.{length, getD, take, drop, set, replicate, length-set}
 use lib.Seq.{getD-set-same, getD-set-other, getD-take, getD-drop}
 use Rattle.sheet.specs.Line.{K, B, H, R, Line, known}
 use Rattle.sheet.specs.Sheet.{inPlace, letterBefore, widthOf, kindRight, topMark, marksFrom, marksRight, linesWith, headsBefore, roomFor, refusal}
-use Rattle.sheet.specs.Inner.{Widths, Keeps, NothingSeen, HasRoom, keptAfter, AdmittedAs, Admits, placedOf, declares, marksTop}
+use Rattle.sheet.specs.inner.Promises.{Widths, Keeps, NothingSeen, HasRoom, keptAfter, AdmittedAs, Admits, placedOf, declares, marksTop}
 use Rattle.sheet.specs.declared.Form.{Form}
 use Rattle.sheet.specs.declared.Form.the-variants.{Kind, Body, Head, Row}
 use Rattle.sheet.specs.declared.order.Seen.{Seen}

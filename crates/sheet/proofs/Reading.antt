@@ -15,7 +15,7 @@ use Rattle.sheet.specs.Line.{B, Line, known, inRange, formOfLine, wellFo
 use Rattle.sheet.specs.Sheet.{letterBefore, refusal}
 use Rattle.walker.specs.Walk.{linesOf, lineLength, lineAt, after}
 use Rattle.sheet.specs.Read.{inFront, goOn, checked, tested, testedIn, takenText, sheetIn, readOf, withRoom, readSays, ReadMeets}
-use Rattle.sheet.specs.Inner.{ParsedAs, FieldsFit, Keeps, NothingSeen, keptAfter, AdmittedAs, Admits, Scanned}
+use Rattle.sheet.specs.inner.Promises.{ParsedAs, FieldsFit, Keeps, NothingSeen, keptAfter, AdmittedAs, Admits, Scanned}
 use Rattle.sheet.specs.declared.Form.{Form}
 use Rattle.sheet.specs.declared.Form.the-variants.{Unknown}
 use Rattle.sheet.specs.declared.Refusal.{Refusal}
@@ -36,9 +36,10 @@ use Rattle.sheet.specs.declared.order.Seen.{Seen}
 use Rattle.sheet.specs.declared.order.Admitted.{Admitted}
 use Rattle.sheet.specs.declared.order.Admitted.the-variants.{Yes, No}
 use Rattle.walker.proofs.Walking.{lineLength-le}
-use Rattle.sheet.proofs.Lines.{lineIn-is, length-lent, linesOf-split, linesOf-last, lineIn-unended}
+use Rattle.walker.proofs.TextLines.{linesOf-split, linesOf-last}
+use Rattle.sheet.proofs.Lines.{lineIn-is, length-lent, lineIn-unended}
 use Rattle.sheet.proofs.Sheets.{refused≢good, length-lentOf, render-size}
-use Rattle.sheet.proofs.FormLaws.{fields-fit}
+use Rattle.sheet.proofs.FormLaws.{fields-fit, formSays-one-to-one}
 use Rattle.sheet.proofs.OrderLaws.{no-width, keeps-none}
 
 -- The line at a place.
@@ -59,8 +60,8 @@ read-form bytes l e u =
 
 -- What is parsed may be asked after.
 pub parsed-fit : (o : Option Line) (form : Form) (numbers : List ℕ) → ParsedAs o form numbers → FieldsFit form
-parsed-fit none form numbers e = rw e tt
-parsed-fit (some l) form numbers e = rw (e .0) (fields-fit (l .letter) (suc (length (l .numbers))))
+parsed-fit none form numbers e = rw (formSays-one-to-one form Unknown e) tt
+parsed-fit (some l) form numbers e = rw (formSays-one-to-one form (formOfLine l) (e .0)) (fields-fit (l .letter) (suc (length (l .numbers))))
 
 -- What is answered from a line on that is taken for o, where the rest follows it.
 abbrev onward : List Line → List ℕ → ℕ → Option Line → Outcome (List Line)
@@ -194,9 +195,9 @@ module _ {text start : List ℕ} {seen : Seen} {widths : List ℕ} {at n : ℕ} 
           known-form u = yes≢no (sym says ∙ a .unknown u)
 
           by-line : (o : Option Line) → lineIn line ≡ o → ParsedAs o form eight → Admitting (keptAfter seen form (getD eight 1 0) mark)
-          by-line none e unknown = absurd (known-form unknown)
+          by-line none e unknown = absurd (known-form (formSays-one-to-one form Unknown unknown))
           by-line (some l) e p =
-              let admitted : AdmittedAs (keptAfter seen form (getD eight 1 0)) (r .before) l (Yes mark) after = rw says at (a .each (r .before) l known-form (r .keeps) (p .0) (p .1)) in
+              let admitted : AdmittedAs (keptAfter seen form (getD eight 1 0)) (r .before) l (Yes mark) after = rw says at (a .each (r .before) l known-form (r .keeps) (formSays-one-to-one form (formOfLine l) (p .0)) (p .1)) in
               let (shown, formed) = lineIn-is line l e in
               record { is = l; taken = e; same = p .1; right = admitted .0; keeps = admitted .1; long = omega (arith, ap length shown, render-size l formed) }
 
@@ -236,11 +237,12 @@ module _ {text start : List ℕ} {seen : Seen} {widths : List ℕ} {at n : ℕ} 
 
           by-line : (o : Option Line) → lineIn line ≡ o → ParsedAs o form eight → (sheetIn text ≡ refused number (n + 1)) × (2 ≤ number) × (number ≤ 6)
           by-line none e unknown =
-              let two : number ≡ 2 = no-number (sym says ∙ a .unknown unknown) in
+              let two : number ≡ 2 = no-number (sym says ∙ a .unknown (formSays-one-to-one form Unknown unknown)) in
               (rw two (outcome-line none e), omega arith, omega arith)
           by-line (some l) e p =
+              let of-line : form ≡ formOfLine l = formSays-one-to-one form (formOfLine l) (p .0) in
               let answered : AdmittedAs (keptAfter seen form (getD eight 1 0)) (r .before) l (No number) after =
-              rw says at (a .each (r .before) l (λ u. read-form line l e (sym (p .0) ∙ u)) (r .keeps) (p .0) (p .1)) in
+              rw says at (a .each (r .before) l (λ u. read-form line l e (sym of-line ∙ u)) (r .keeps) of-line (p .1)) in
               (outcome-line (some l) e ∙ refused-on l (refusal (r .before) l) (answered .0) (answered .1), omega arith, answered .2)
 
   -- After the last line.

@@ -13,11 +13,13 @@ use Rattle.patterns.specs.Outcome.{Outcome, good, refused}
 use Rattle.sheet.specs.Line.{B, Line, render, textOf, wellFormed, lineIn, lent, lentOf}
 use Rattle.sheet.specs.Sheet.{letterBefore, refusal}
 use Rattle.walker.specs.Walk.{linesOf}
+use Rattle.walker.specs.Handed.{together}
+use Rattle.walker.proofs.TextLines.{together-linesOf}
 use Rattle.sheet.specs.Read.{Taken, takes, refuses, inFront, goOn, checked, tested, testedIn, takenText, sheetIn}
 use Rattle.sheet.specs.Write.{lineHeld, lineHolds, takenLent, partsOf, sheetHeld}
 use Rattle.sheet.specs.Refusals.{TakenAfter, TextFault, LentFault, RefusedAt, TextRefused, LentRefused}
 use Rattle.sheet.specs.Refusals.TextFault.{unfinished, formless, unfit}
-use Rattle.sheet.proofs.Lines.{lineIn-render, lineIn-is, linesOf-front, together, together-linesOf}
+use Rattle.sheet.proofs.Lines.{lineIn-render, lineIn-is, linesOf-front}
 use Rattle.sheet.proofs.Sheets.{refused≢good, refusal-number, Shows, text-shows, lent-shows, together-render, together-lent, together-parts, parts-front}
 
 takes≢refuses : {l : Line} {n : ℕ} → takes l ≡ refuses n → ⊥

@@ -14,13 +14,15 @@ use Rattle.columns.specs.Column.{same}
 use Rattle.sheet.specs.Line.{K, B, Line, render, textOf, formOf, known, inRange, formOfLine, wellFormed, lineIn, lent, lentOf}
 use Rattle.sheet.specs.Sheet.{letterBefore, widthOf, inPlace, kindRight, marksRight, roomFor, refusal, Continues, IsSheet}
 use Rattle.walker.specs.Walk.{linesOf}
+use Rattle.walker.specs.Handed.{together}
+use Rattle.walker.proofs.TextLines.{together-linesOf}
 use Rattle.sheet.specs.Read.{Taken, takes, refuses, inFront, goOn, checked, tested, testedIn, takenText, sheetIn}
 use Rattle.sheet.specs.Write.{usedNumbers, lineHeld, lineHolds, takenLent, partsOf, sheetHeld}
 use Rattle.sheet.specs.declared.Form.the-variants.{Kind}
 use Rattle.columns.proofs.ColumnLaws.{same-refl, same-true}
 use Rattle.sheet.proofs.Forms.{known-where, known-columns}
 use Rattle.sheet.proofs.FormLaws.{take-padded}
-use Rattle.sheet.proofs.Lines.{both, drop-twice, Formed, lineIn-render, lineIn-is, length-render, length-lent, linesOf-text, together, together-linesOf}
+use Rattle.sheet.proofs.Lines.{both, drop-twice, Formed, lineIn-render, lineIn-is, length-render, length-lent, linesOf-text}
 
 -- A good outcome is no refusal.
 

@@ -11,14 +11,14 @@ use native.Mathlib.Decide.{ℕ-discrete}
 use borrow.Author.Tests.{lt-ltb, le-ltb, le-leb, lt-leb, eq-eqb, ne-eqb, eqb-true, leb-true, ltb-true}
 use lib.Dec.{eqb, leb, ltb}
 use lib.ListN.{length, getD, take, drop, set, length-append, length-set, length-take, length-drop, drop-of-length-le}
-use lib.Seq.{take-all, take-nil, drop-cons, set-split, take-suc, take-at, drop-at, drop-append-add, length-take-le, paste, paste-zero, getD-drop, getD-set-same, getD-set-other}
+use lib.Seq.{take-all, take-nil, drop-cons, set-split, take-suc, take-at, drop-at, drop-append-add, length-take-le, paste, paste-zero, getD-take, getD-drop, getD-set-same, getD-set-other}
 use Rattle.columns.specs.Column.{column, largestNumber}
 use Rattle.sheet.specs.Line.{K, B, H, R, Line, columns, render, textOf, formOf, known, inRange, formOfLine, wellFormed, lent, lentOf}
 use Rattle.patterns.specs.Outcome.{Outcome, good, refused, mapGood, held, padded}
 use Rattle.sheet.specs.Sheet.{letterBefore, kindBefore, widthOf, inPlace, kindRight, roomFor, linesWith, headsBefore, refusal, Continues}
 use Rattle.sheet.specs.Read.{takes, refuses, inFront, goOn, checked}
 use Rattle.sheet.specs.Write.{takenLent, lineHeld, lineHolds, partsOf, sheetHeld, WriteMeets, writeOf, writeSays, written}
-use Rattle.sheet.specs.Inner.{Widths, Keeps, keptAfter, Admits, AdmittedAs, TextFits, TextFilled, LinePut, sizeOf, usedOf, zeros, rangesRight}
+use Rattle.sheet.specs.inner.Promises.{Widths, Keeps, keptAfter, Admits, AdmittedAs, TextFits, TextFilled, LinePut, sizeOf, usedOf, zeros, rangesRight}
 use Rattle.sheet.specs.declared.Refusal.the-variants.{LineWrong, TextTooLong, TextShort}
 use Rattle.sheet.specs.declared.WriteAnswer.{WriteAnswer}
 use Rattle.sheet.specs.declared.WriteAnswer.the-variants.{Bytes, Refused}
@@ -109,6 +109,22 @@ module _ (fields i : ℕ) (numbers : List ℕ) (inside : i < length numbers) whe
 
 pub ranges-done : (fields i : ℕ) (numbers : List ℕ) → length numbers ≤ i → rangesFrom fields i (drop i numbers) ≡ true
 ranges-done fields i numbers h = ap (rangesFrom fields i) (drop-of-length-le numbers h)
+
+inRange-at : (ns : List ℕ) (i : ℕ) → inRange ns ≡ true → i < length ns → getD ns i 0 ≤ largestNumber
+inRange-at [] i e h = absurd (omega arith)
+inRange-at (n ∷ ns) zero e h = leb-true n largestNumber (and-eq-true-iff (leb n largestNumber) (inRange ns) .0 e .0)
+inRange-at (n ∷ ns) (suc i) e h = inRange-at ns i (and-eq-true-iff (leb n largestNumber) (inRange ns) .0 e .1) (omega arith)
+
+-- The kind and the used numbers of a lent line that is in range fit in columns.
+pub number-fits : (numbers : List ℕ) (fields : ℕ) → length numbers ≡ 8 → fields ≤ 6 → inRange (take (suc fields) (drop 1 numbers)) ≡ true
+    → (c : ℕ) → c < fields + 1 → getD numbers (c + 1) 0 ≤ largestNumber
+number-fits numbers fields eight few e c h =
+    let place : 1 + c ≡ c + 1 = omega arith in
+    let used = take (suc fields) (drop 1 numbers) in
+    let inside : c < length used = omega (arith, eight, length-take (suc fields) (drop 1 numbers), length-drop 1 numbers) in
+    let same : getD used c 0 ≡ getD numbers (c + 1) 0 =
+    getD-take (suc fields) (drop 1 numbers) c 0 (omega arith) ∙ getD-drop 1 numbers c 0 ∙ ap (λ (k : ℕ). getD numbers k 0) place in
+    subst (λ (n : ℕ). n ≤ largestNumber) same (inRange-at used c e inside)
 
 -- ---- what is put into a text
 
@@ -742,6 +758,7 @@ pub record Putting (numbers text₀ text widths : List ℕ) (at n : ℕ) (x : Li
   pub few : fields ≤ 6
   pub room : at + 9 * fields + 11 ≤ length text
   pub letter : getD x 0 0 < 256
+  pub ranges : inRange (take (suc fields) (drop 1 x)) ≡ true
   pub declares : getD x 0 0 ≡ 75 → (getD x 1 0 < 65) × (getD x 2 0 < 256)
   pub next : (after : List ℕ) → LinePut text at x fields after → Fills numbers text₀ after (declaredIn widths x) (at + (9 * fields + 11)) (n + 1)
 
@@ -780,6 +797,7 @@ module _ (numbers text₀ text widths : List ℕ) (at n : ℕ) (f : Fills number
           few = formed-few l (goes-on .0);
           room = omega arith;
           letter = letter-small l (goes-on .0);
+          ranges = ap (λ (ns : List ℕ). inRange (l .kind ∷ ns)) (take-padded 6 (l .numbers) (formed-few l (goes-on .0))) ∙ formed-range l (goes-on .0);
           declares = w;
           next = λ after p.
               let a : at + 9 * length (l .numbers) + 11 ≡ at + length (render l) = omega arith in

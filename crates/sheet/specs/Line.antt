@@ -5,7 +5,7 @@ use mathlib.Core.Option.{Option, none, some}
 use Prim.Native.Nat.{ℕ, zero, suc, _+_, _-_, _*_, _/_}
 use lib.Dec.{eqb, leb}
 use lib.ListN.{length, getD, take, drop}
-use Rattle.patterns.specs.Outcome.{padded}
+use Rattle.patterns.specs.Outcome.{Outcome, good, refused, padded}
 use Rattle.columns.specs.Column.{largestNumber, column, numberIn}
 use Rattle.sheet.specs.declared.Form.{Form}
 use Rattle.sheet.specs.declared.Form.the-variants.{Kind, Body, Head, Row, Unknown}
@@ -50,6 +50,14 @@ unfoldable pub formOf : ℕ → ℕ → Form
 formOf letter c =
     cond (eqb letter K) (cond (eqb c 2) Kind Unknown)
     (cond (eqb letter B) (withFields c Body) (cond (eqb letter H) (withFields c Head) (cond (eqb letter R) (withFields c Row) Unknown)))
+
+-- Document 01's numbers for each form: the letter's byte and how many fields there are; 2 where there is no such form.
+abbrev pub formSays : Form → Outcome (ℕ × ℕ)
+formSays Kind = good (K, 1)
+formSays (Body n) = good (B, n)
+formSays (Head n) = good (H, n)
+formSays (Row n) = good (R, n)
+formSays Unknown = refused 2 0
 
 abbrev pub known : Form → Bool
 known Kind = true

@@ -1,14 +1,15 @@
 // Lent lines, eight numbers each: whether they are a sheet, and its text.
 ghost use mathlib.Core.Path.{_≡_};
-ghost use mathlib.Core.Bool.{cond};
-ghost use Prim.Native.Nat.{_+_, _*_, _≤_, _<_};
+ghost use mathlib.Core.Bool.{cond, true};
+ghost use Prim.Native.Nat.{suc, _+_, _*_, _≤_, _<_};
 ghost use lib.Dec.{eqb};
 ghost use lib.ListN.{length, getD, set, take, drop};
 ghost use lib.Seq.{paste};
 ghost use Rattle.columns.specs.Column.{column as columnOf};
 ghost use Rattle.patterns.specs.Outcome.{mapGood};
+ghost use Rattle.sheet.specs.Line.{inRange};
 ghost use Rattle.sheet.specs.Write.{sheetHeld};
-ghost use Rattle.sheet.specs.Inner.{measuredSays, sizeOf, usedOf, rangesRight, TextFits, TextFilled, LinePut};
+ghost use Rattle.sheet.specs.inner.Promises.{measuredSays, sizeOf, usedOf, rangesRight, TextFits, TextFilled, LinePut};
 use crate::line::take_apart;
 use crate::order::Admitted;
 use crate::order::admit;
@@ -114,7 +115,7 @@ pub(crate) fn measure(lines: &[u32]) -> Measured
 
 // Puts the column of `n` at `at`.
 fn put_column(text: &mut [u8], at: usize, n: u32)
-    requires { ⌜ at + 9 ≤ length (now text) ⌝ }
+    requires { ⌜ (at + 9 ≤ length (now text)) × (n ≤ 99999999) ⌝ }
     ensures { λ _. ⌜ now (text .exit) ≡ paste (now (text .entry)) at (columnOf n) 9 ⌝ }
 {
     let bytes = columns::column(n);
@@ -127,7 +128,7 @@ fn put_column(text: &mut [u8], at: usize, n: u32)
 
 // Puts a line's text at `at`: its letter, its kind and `fields` numbers in columns, byte 10.
 fn put_line(text: &mut [u8], at: usize, numbers: [u32; 8], fields: usize)
-    requires { ⌜ (fields ≤ 6) × (at + 9 * fields + 11 ≤ length (now text)) × (getD numbers 0 0 < 256) ⌝ }
+    requires { ⌜ (fields ≤ 6) × (at + 9 * fields + 11 ≤ length (now text)) × (getD numbers 0 0 < 256) × (inRange (take (suc fields) (drop 1 numbers)) ≡ true) ⌝ }
     ensures { λ _. ⌜ LinePut (now (text .entry)) at numbers fields (now (text .exit)) ⌝ }
 {
     text[at] = numbers[0] as u8;

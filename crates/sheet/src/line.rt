@@ -1,8 +1,8 @@
 // A line: its letter, its columns and its byte 10.
 ghost use mathlib.Core.Path.{_≡_};
 ghost use lib.ListN.{length, replicate};
-ghost use Rattle.sheet.specs.Line.{formOf, lineIn};
-ghost use Rattle.sheet.specs.Inner.{ParsedAs};
+ghost use Rattle.sheet.specs.Line.{formOf, formSays, lineIn};
+ghost use Rattle.sheet.specs.inner.Promises.{ParsedAs};
 use crate::Form;
 use columns::Number;
 use columns::number_at;
@@ -15,7 +15,7 @@ pub(crate) fn wide(b: u8) -> u32
 
 // The letter and the column count decide.
 pub(crate) fn take_apart(letter: u32, columns: usize) -> Form
-    ensures { λ r. ⌜ r ≡ formOf letter columns ⌝ }
+    ensures { λ r. ⌜ formSays r ≡ formSays (formOf letter columns) ⌝ }
 {
     match letter {
         75 => match columns {

@@ -5,7 +5,7 @@ ghost use Prim.Native.Nat.{_≤_};
 ghost use lib.Dec.{eqb, ltb};
 ghost use lib.ListN.{length, getD, take, drop};
 ghost use Rattle.sheet.specs.Sheet.{inPlace};
-ghost use Rattle.sheet.specs.Inner.{NothingSeen, Admits, FieldsFit, HasRoom, keptAfter, marksTop, placedOf, declares};
+ghost use Rattle.sheet.specs.inner.Promises.{NothingSeen, Admits, FieldsFit, HasRoom, keptAfter, marksTop, placedOf, declares};
 use crate::Form;
 use crate::line::wide;
 

@@ -5,7 +5,7 @@ ghost use Prim.Native.Nat.{_+_, _*_, _/_, _≤_};
 ghost use lib.ListN.{length, take, drop};
 ghost use lib.Seq.{paste};
 ghost use Rattle.sheet.specs.Read.{ReadMeets};
-ghost use Rattle.sheet.specs.Inner.{RefusalIs, Scanned};
+ghost use Rattle.sheet.specs.inner.Promises.{RefusalIs, Scanned};
 use crate::ReadAnswer;
 use crate::Refusal;
 use crate::line::parse;

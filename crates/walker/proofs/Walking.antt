@@ -12,7 +12,8 @@ use lib.Dec.{eqb}
 use lib.ListN.{length, getD, take, drop, length-drop, drop-of-length-le}
 use lib.Seq.{drop-cons}
 use borrow.Author.Tests.{eq-eqb, ne-eqb}
-use Rattle.walker.specs.Walk.{after, lineLength, lineEnd, lineAt, Clear, partStart}
+use Rattle.walker.specs.Walk.{after, lineLength, lineEnd, lineAt, partStart}
+use Rattle.walker.specs.inner.Clear.{Clear}
 
 -- The end of the line at `at` as seen from i, where the line at i has k bytes.
 abbrev pub reach : ℕ → ℕ → ℕ → ℕ

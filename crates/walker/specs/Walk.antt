@@ -1,9 +1,9 @@
 -- The lines of a text, each with its byte 10. Assumes nothing.
 use mathlib.Core.Path.{_≡_}
-use Prim.Native.Nat.{ℕ, zero, suc, _+_, _≤_, _<_}
+use Prim.Native.Nat.{ℕ, zero, suc, _+_}
 use mathlib.Core.Bool.{Bool, true, false, cond}
 use mathlib.Core.List.{List, [], _∷_}
-use lib.ListN.{getD, take, drop}
+use lib.ListN.{take, drop}
 use lib.Dec.{eqb}
 use denote.Ref.{RefT, ptr, now}
 
@@ -31,11 +31,6 @@ lineLength (b ∷ s) = after (eqb b 10) (lineLength s)
 abbrev pub lineEnd : List ℕ → ℕ → ℕ
 lineEnd s at = at + lineLength (drop at s)
 
--- From i up to e, which is not before i, no byte is 10.
-pub record Clear (s : List ℕ) (i e : ℕ) : Type 0 where
-  pub ahead : i ≤ e
-  pub never : (j : ℕ) → i ≤ j → j < e → getD s j 0 ≡ 10 → ⊥
-
 -- The line at `at`, with its byte 10; empty where there is none.
 abbrev pub lineAt : List ℕ → ℕ → List ℕ
 lineAt s at = take (lineLength (drop at s)) (drop at s)
@@ -50,3 +45,17 @@ pub record HandsOut (text : RefT (List ℕ)) (at : ℕ) (part : RefT (List ℕ))
   pub bytes : now part ≡ lineAt (now text) at
   pub block : ptr part .0 ≡ ptr text .0
   pub offset : ptr part .1 ≡ partStart at (lineLength (drop at (now text))) + ptr text .1
+
+-- Where a walker that begins at `at` stands once it has moved n times. Where no line is left it stays.
+abbrev pub standsAt : List ℕ → ℕ → ℕ → ℕ
+standsAt s at zero = at
+standsAt s at (suc n) = lineEnd s (standsAt s at n)
+
+-- Where line n + 1 begins: where a walker stands that has passed n lines from the text's start; where it stays if there are fewer.
+abbrev pub lineStart : List ℕ → ℕ → ℕ
+lineStart s n = standsAt s 0 n
+
+-- Where line `number`, counted from 1, begins; 0 for number 0. It ends at `lineStart s number`.
+abbrev pub spanStart : List ℕ → ℕ → ℕ
+spanStart s zero = 0
+spanStart s (suc n) = lineStart s n

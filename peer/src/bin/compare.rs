@@ -9,7 +9,7 @@
 #[path = "../library.rs"]
 mod library;
 
-use library::{JudgeReply, Reply};
+use library::{JudgeReply, Reply, Span, Step};
 use peer::random::{bytes_of, Input, Random};
 use peer::{Refusal, Verdict};
 use std::panic::{catch_unwind, AssertUnwindSafe};
@@ -19,6 +19,9 @@ use std::{env, fmt, fs};
 
 /// Records up to which a sheet is chased.
 const CHASE: usize = 1_500;
+
+/// No text has more lines.
+const MOST_LINES: usize = 1_638;
 
 /// Lent memory with guards around it, all random at first.
 struct Lent {
@@ -184,6 +187,63 @@ fn compare_judge(random: &mut Random, input: &Input, tally: &mut Tally) -> Resul
     lent.holds(&steps).map_err(|e| format!("judge: {e}"))
 }
 
+/// From the text to the verdict. The steps are looked at as records.
+fn compare_text(random: &mut Random, input: &Input) -> Result<(), String> {
+    let mut lent = Lent::new(random, input.lent_steps);
+    let library = library::judge_text(&input.text, lent.part());
+    let counted = match peer::judge_text(&input.text, input.lent_steps / 2) {
+        Err(refusal) => {
+            same("judge a text", library, refused(refusal))?;
+            0
+        }
+        Ok(verdict) => {
+            let counted = compare_figures(&library, &verdict)?;
+            let steps = lent.part().get(..counted);
+            let steps = steps.ok_or("judge a text: more steps than lent")?;
+            let lines =
+                peer::read(&input.text, MOST_LINES).map_err(|_| "judge a text: no lines")?;
+            compare_answer(lines.as_flattened(), &library, steps)?;
+            compare_steps(steps)?;
+            counted
+        }
+    };
+    let steps = lent.part()[..counted].to_vec();
+    lent.holds(&steps).map_err(|e| format!("judge a text: {e}"))
+}
+
+/// Each step as a record; all zeros past the last.
+fn compare_steps(steps: &[u8]) -> Result<(), String> {
+    let record = |[rule, head, from, to, fresh]: [u16; 5]| Step {
+        rule,
+        head,
+        from,
+        to,
+        fresh,
+    };
+    let numbers = steps_of(steps);
+    for (k, &step) in numbers.iter().enumerate() {
+        same("a step", library::step_at(steps, k), record(step))?;
+    }
+    same(
+        "no step",
+        library::step_at(steps, numbers.len()),
+        record([0; 5]),
+    )
+}
+
+/// The text's lines one after the other, and one number past them.
+fn compare_lines(input: &Input) -> Result<(), String> {
+    let feeds = input.text.iter().filter(|&&byte| byte == b'\n').count();
+    // The first lines, the last ones, and those past the end.
+    let numbers = (0..feeds.min(8)).chain(feeds.saturating_sub(2)..feeds + 3);
+    for number in numbers {
+        let (start, end) = peer::line_span(&input.text, number);
+        let library = library::line_span(&input.text, number);
+        same("where a line stands", library, Span { start, end })?;
+    }
+    Ok(())
+}
+
 fn refused(refusal: Refusal) -> JudgeReply {
     JudgeReply {
         refusal: refusal.number,
@@ -251,7 +311,9 @@ fn compare(random: &mut Random, input: &Input, tally: &mut Tally) -> Result<(), 
     let (refusal, _) = compare_write(random, &input.lines, input.lent_text)?;
     tally.written[refusal as usize] += 1;
     compare_pattern(input, tally)?;
-    compare_judge(random, input, tally)
+    compare_judge(random, input, tally)?;
+    compare_text(random, input)?;
+    compare_lines(input)
 }
 
 impl Tally {
@@ -375,7 +437,8 @@ fn options() -> Result<Options, String> {
 /// Compares one input of a run; on a difference, says which and writes the input to a file.
 fn run(seed: u64, index: u64, tally: &mut Tally) -> Result<(), String> {
     let mut random = Random::of_input(seed, index);
-    let input = Input::new(&mut random);
+    let input = catch_unwind(AssertUnwindSafe(|| Input::new(&mut random)));
+    let input = input.map_err(|_| format!("input {index}: the generator has stopped"))?;
     let result = catch_unwind(AssertUnwindSafe(|| compare(&mut random, &input, tally)));
     let difference = match result {
         Ok(Ok(())) => return Ok(()),

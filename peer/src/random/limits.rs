@@ -76,14 +76,7 @@ pub fn shapes(random: &mut Random) -> Sheet {
     let wanted = random.pick(&[100, 400, 500, 511, 512, 512, 513, 513, 514, 520]);
     let high = random.between(4, 6);
     let mut kinds = some_kinds(random, 64, 3, high);
-    let mut all: Vec<Entry> = Vec::new();
-    let mut used = 0;
-    while all.len() < wanted {
-        let patterns = patterns(kinds[used].width);
-        all.extend(patterns.iter().map(|pattern| entry(kinds[used], pattern)));
-        used += 1;
-    }
-    kinds.truncate(used);
+    let mut all = first_shapes(&mut kinds, wanted);
     random.shuffle(&mut all);
     all.truncate(wanted);
     let shift = random.pick(&[0, 1, 5, 99_999_900]);
@@ -104,6 +97,32 @@ pub fn shapes(random: &mut Random) -> Sheet {
         sheet.rows.push(again);
     }
     sheet
+}
+
+/// How many patterns there are of so many fields.
+const PATTERNS: [usize; 7] = [1, 1, 2, 5, 15, 52, 203];
+
+/// A record of every shape of the first kinds, up to the one with which there are as many
+/// as wanted; the kinds after it are dropped. Where all kinds together show too few, the
+/// narrowest ones, first to last, get one field more until they show enough.
+pub fn first_shapes(kinds: &mut Vec<Kind>, wanted: usize) -> Vec<Entry> {
+    while kinds.iter().map(|kind| PATTERNS[kind.width]).sum::<usize>() < wanted {
+        let narrowest = kinds.iter_mut().min_by_key(|kind| kind.width);
+        narrowest.expect("a kind").width += 1;
+    }
+    let mut all = Vec::new();
+    let mut used = 0;
+    while all.len() < wanted {
+        let kind = kinds[used];
+        all.extend(
+            patterns(kind.width)
+                .iter()
+                .map(|digits| entry(kind, digits)),
+        );
+        used += 1;
+    }
+    kinds.truncate(used);
+    all
 }
 
 /// One count at its limit or just past it, or all at once.

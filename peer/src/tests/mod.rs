@@ -1,4 +1,7 @@
 mod answers;
 mod common;
+mod generator;
 mod refusals;
+mod series;
 mod sheets;
+mod texts;

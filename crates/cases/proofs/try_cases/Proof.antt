@@ -1,29 +1,28 @@
--- `try_cases` meets its contract. Assumes nothing.
+-- `try_cases` is safe and ends. The measure is what is left of the cases. Assumes nothing.
+use mathlib.Core.Path.{_≡_}
 use Prim.Native.Nat.{_-_, _≤_}
 use borrow.Author.Needs.{needs}
+use lib.ListN.{length}
 use Rattle.cases.proofs.try_cases.Statement.{statement}
 use Rattle.cases.proofs.try_cases.Tie as tie
 
 abbrev Inv-loop : tie.InvT-loop
-Inv-loop tried₀ k₀ tried k = 0 ≤ k
+Inv-loop out₀ end₀ cases tried₀ at₀ out end tried at = (at ≤ length cases) × (length out ≡ length out₀)
 
 abbrev μ-loop : tie.MeasureT-loop
-μ-loop tried₀ k₀ tried k = 1000 - k
+μ-loop out₀ end₀ cases tried₀ at₀ out end tried at = length cases - at
 
 loop-holds : tie.Need-loop-holds Inv-loop μ-loop
 loop-holds c = search needs
 
-slice-aggregate-read-full : tie.Need-slice-aggregate-read-full Inv-loop μ-loop
-slice-aggregate-read-full c = search needs
+sub-try-case : tie.Need-sub-try-case Inv-loop μ-loop
+sub-try-case c = search needs
 
-read-full-requires : tie.Need-read-full-requires Inv-loop μ-loop
-read-full-requires c κs = search needs
+part-try-case-start : tie.Need-part-try-case-start Inv-loop μ-loop
+part-try-case-start c = search needs
 
-returns : tie.Need-returns Inv-loop μ-loop
-returns c = search needs
-
-slice-aggregate-try-case : tie.Need-slice-aggregate-try-case Inv-loop μ-loop
-slice-aggregate-try-case c = search needs
+part-try-case-end : tie.Need-part-try-case-end Inv-loop μ-loop
+part-try-case-end c = search needs
 
 try-case-requires : tie.Need-try-case-requires Inv-loop μ-loop
 try-case-requires c κs = search needs
@@ -31,8 +30,11 @@ try-case-requires c κs = search needs
 count-case-requires : tie.Need-count-case-requires Inv-loop μ-loop
 count-case-requires c κs = search needs
 
-add-k : tie.Need-add-k Inv-loop μ-loop
-add-k c = search needs
+case-size-requires : tie.Need-case-size-requires Inv-loop μ-loop
+case-size-requires c κs = search needs
+
+add-at : tie.Need-add-at Inv-loop μ-loop
+add-at c = search needs
 
 loop-less : tie.Need-loop-less Inv-loop μ-loop
 loop-less c = search needs
@@ -40,8 +42,11 @@ loop-less c = search needs
 loop-again : tie.Need-loop-again Inv-loop μ-loop
 loop-again c = search needs
 
-returns-2 : tie.Need-returns-2 Inv-loop μ-loop
-returns-2 c = search needs
+same-length : tie.Need-same-length Inv-loop μ-loop
+same-length c = search needs
+
+returns : tie.Need-returns Inv-loop μ-loop
+returns c = search needs
 
 pub try-cases-spec : {M : Type 1} → statement M
 try-cases-spec =
@@ -50,13 +55,14 @@ try-cases-spec =
     Inv-loop
     μ-loop
     loop-holds
-    slice-aggregate-read-full
-    read-full-requires
-    returns
-    slice-aggregate-try-case
+    sub-try-case
+    part-try-case-start
+    part-try-case-end
     try-case-requires
     count-case-requires
-    add-k
+    case-size-requires
+    add-at
     loop-less
     loop-again
-    returns-2)
+    same-length
+    returns)

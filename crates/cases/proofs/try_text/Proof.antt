@@ -31,12 +31,12 @@ mul-used : tie.Need-mul-used
 mul-used c = let h = read (c .before) in search needs
 
 array-share-prefix-lines : tie.Need-array-share-prefix-lines
-array-share-prefix-lines c = let h = read (c .before) in search needs
+array-share-prefix-lines c = let h = read (c .before .before .before) in search needs
 
 slice-aggregate-lend-steps : tie.Need-slice-aggregate-lend-steps
 slice-aggregate-lend-steps c =
-    let r = c .before .before .before .before .before in
-    let h = read (c .before .before) in
+    let r = c .before .before .before .before .before .before .before in
+    let h = read (c .before .before .before .before) in
     sym (length-take-le _ _ (omega (arith, h, r .read .kept .1 .0, r .before .before .room-for-lines .ensures)))
 
 lend-steps-requires : tie.Need-lend-steps-requires
@@ -57,8 +57,14 @@ refusal-requires c κs = search needs
 tell-answer-requires : tie.Need-tell-answer-requires
 tell-answer-requires c κs = search needs
 
+same-length : tie.Need-same-length
+same-length c = search needs
+
 returns : tie.Need-returns
 returns c = search needs
+
+same-length-2 : tie.Need-same-length-2
+same-length-2 c = search needs
 
 returns-2 : tie.Need-returns-2
 returns-2 c = search needs
@@ -80,5 +86,7 @@ try-text-spec =
     cast-refusal
     refusal-requires
     tell-answer-requires
+    same-length
     returns
+    same-length-2
     returns-2)

@@ -1,55 +1,18 @@
--- `column` meets its contract: each place is what `place` answers. Assumes nothing.
+-- `column` meets its contract: the digits where the number is not too large, otherwise blanks. Assumes nothing.
 use borrow.Author.Needs.{needs}
-use Rattle.columns.specs.Column.{column}
+use borrow.Author.Tests.{le-leb, lt-leb}
+use Rattle.columns.specs.Column.{largestNumber}
 use Rattle.columns.proofs.column.Statement.{statement}
 use Rattle.columns.proofs.column.Tie as tie
 
-cast-last : tie.Need-cast-last
-cast-last c = search needs
-
-add-last : tie.Need-add-last
-add-last c = search needs
-
-place-requires : tie.Need-place-requires
-place-requires c κs = search needs
-
-place-requires-2 : tie.Need-place-requires-2
-place-requires-2 c κs = search needs
-
-place-requires-3 : tie.Need-place-requires-3
-place-requires-3 c κs = search needs
-
-place-requires-4 : tie.Need-place-requires-4
-place-requires-4 c κs = search needs
-
-place-requires-5 : tie.Need-place-requires-5
-place-requires-5 c κs = search needs
-
-place-requires-6 : tie.Need-place-requires-6
-place-requires-6 c κs = search needs
-
-place-requires-7 : tie.Need-place-requires-7
-place-requires-7 c κs = search needs
-
-place-requires-8 : tie.Need-place-requires-8
-place-requires-8 c κs = search needs
-
 returns : tie.Need-returns
-unfolding column
-returns c = cc
+returns c = rw (lt-leb (c .before .args .n) largestNumber (c .if1 .taken))
+
+digits-requires : tie.Need-digits-requires
+digits-requires c κs = search needs
+
+returns-2 : tie.Need-returns-2
+returns-2 c = rw (le-leb (c .before .before .args .n) largestNumber (c .before .if1 .left)) (c .digits .ensures)
 
 pub column-spec : {M : Type 1} → statement M
-column-spec =
-    tie.close
-    (tie.spec
-    cast-last
-    add-last
-    place-requires
-    place-requires-2
-    place-requires-3
-    place-requires-4
-    place-requires-5
-    place-requires-6
-    place-requires-7
-    place-requires-8
-    returns)
+column-spec = tie.close (tie.spec returns digits-requires returns-2)

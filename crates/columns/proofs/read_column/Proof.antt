@@ -1,9 +1,10 @@
 -- `read_column` meets its contract. The loop's invariant: the first i places are n's. The measure is what is left of the eight. Assumes nothing.
-use mathlib.Core.Path.{sym, subst}
+use mathlib.Core.Path.{ap, sym, subst}
 use mathlib.Core.Logic.{⊎-elim}
 use Prim.Native.Nat.{ℕ, _+_, _-_}
 use native.Mathlib.Omega.{arith}
 use borrow.Author.Needs.{needs}
+use Rattle.columns.specs.Column.{inForm}
 use Rattle.columns.proofs.DigitLaws.{Read, read-fits, begins-blank, begins-otherwise, blank-again, blank-after-digit, digit, leading-zero, below-digits, above-digits, last-below-digits, last-above-digits, last-digit}
 use Rattle.columns.proofs.read_column.Statement.{statement}
 use Rattle.columns.proofs.read_column.Tie as tie
@@ -18,7 +19,7 @@ shared-slice-read-if1 : tie.Need-shared-slice-read-if1 Inv-loop μ-loop
 shared-slice-read-if1 c = search needs
 
 returns : tie.Need-returns Inv-loop μ-loop
-returns c = let start = c .before .before .before in sym (begins-otherwise (start .args .s .now) (start .args .at) (start .pre) (c .if1 .taken))
+returns c = let start = c .before .before .before in ap inForm (sym (begins-otherwise (start .args .s .now) (start .args .at) (start .pre) (c .if1 .taken)))
 
 loop-holds : tie.Need-loop-holds Inv-loop μ-loop
 loop-holds c = begins-blank _ _ (c .before .before .before .pre) (c .if1 .left)
@@ -30,13 +31,13 @@ shared-slice-read-b : tie.Need-shared-slice-read-b Inv-loop μ-loop
 shared-slice-read-b c = search needs
 
 returns-2 : tie.Need-returns-2 Inv-loop μ-loop
-returns-2 c = let turn = c .before .before .before in sym (blank-after-digit _ _ _ _ (turn .before .loop .inv) (turn .loop-test .taken) (c .before .if2 .taken) (c .if3 .taken))
+returns-2 c = let turn = c .before .before .before in ap inForm (sym (blank-after-digit _ _ _ _ (turn .before .loop .inv) (turn .loop-test .taken) (c .before .if2 .taken) (c .if3 .taken)))
 
 returns-3 : tie.Need-returns-3 Inv-loop μ-loop
-returns-3 c = let turn = c .before .before .before in sym (below-digits _ _ _ _ (turn .before .loop .inv) (turn .loop-test .taken) (c .before .if2 .left) (c .if4 .taken))
+returns-3 c = let turn = c .before .before .before in ap inForm (sym (below-digits _ _ _ _ (turn .before .loop .inv) (turn .loop-test .taken) (c .before .if2 .left) (c .if4 .taken)))
 
 returns-4 : tie.Need-returns-4 Inv-loop μ-loop
-returns-4 c = let turn = c .before .before .before .before in sym (above-digits _ _ _ _ (turn .before .loop .inv) (turn .loop-test .taken) (omega (arith, c .if5 .taken)))
+returns-4 c = let turn = c .before .before .before .before in ap inForm (sym (above-digits _ _ _ _ (turn .before .loop .inv) (turn .loop-test .taken) (omega (arith, c .if5 .taken))))
 
 mul-n : tie.Need-mul-n Inv-loop μ-loop
 mul-n c = omega (arith, read-fits _ _ _ _ (c .before .before .before .before .before .loop .inv))
@@ -48,8 +49,8 @@ add-n : tie.Need-add-n Inv-loop μ-loop
 add-n c = omega (arith, read-fits _ _ _ _ (c .before .before .before .before .before .before .loop .inv))
 
 returns-5 : tie.Need-returns-5 Inv-loop μ-loop
-returns-5 c = let turn = c .before .before .before .before .before .before in sym (leading-zero _ _ _ _ _ (turn .before .loop .inv) (turn .loop-test .taken) (c .before .before .before .if4 .left) (c .before .wide .ensures)
-    (omega (arith, read-fits _ _ _ _ (turn .before .loop .inv), c .before .before .if5 .left, c .before .wide .ensures, c .if6 .taken)))
+returns-5 c = let turn = c .before .before .before .before .before .before in ap inForm (sym (leading-zero _ _ _ _ _ (turn .before .loop .inv) (turn .loop-test .taken) (c .before .before .before .if4 .left) (c .before .wide .ensures)
+    (omega (arith, read-fits _ _ _ _ (turn .before .loop .inv), c .before .before .if5 .left, c .before .wide .ensures, c .if6 .taken))))
 
 add-i : tie.Need-add-i Inv-loop μ-loop
 add-i c = search needs
@@ -77,10 +78,10 @@ shared-slice-read-last : tie.Need-shared-slice-read-last Inv-loop μ-loop
 shared-slice-read-last c = search needs
 
 returns-6 : tie.Need-returns-6 Inv-loop μ-loop
-returns-6 c = let start = c .before .before .before .before .before .before .before in sym (last-below-digits (start .args .s .now) (start .args .at) (c .if7 .taken))
+returns-6 c = let start = c .before .before .before .before .before .before .before in ap inForm (sym (last-below-digits (start .args .s .now) (start .args .at) (c .if7 .taken)))
 
 returns-7 : tie.Need-returns-7 Inv-loop μ-loop
-returns-7 c = let start = c .before .before .before .before .before .before .before .before in sym (last-above-digits (start .args .s .now) (start .args .at) (c .if8 .taken))
+returns-7 c = let start = c .before .before .before .before .before .before .before .before in ap inForm (sym (last-above-digits (start .args .s .now) (start .args .at) (c .if8 .taken)))
 
 mul-t21 : tie.Need-mul-t21 Inv-loop μ-loop
 mul-t21 c = omega (arith, read-fits _ _ _ _ (c .before .before .before .before .loop .inv))
@@ -92,7 +93,7 @@ add-t23 : tie.Need-add-t23 Inv-loop μ-loop
 add-t23 c = omega (arith, read-fits _ _ _ _ (c .before .before .before .before .before .loop .inv))
 
 returns-8 : tie.Need-returns-8 Inv-loop μ-loop
-returns-8 c = let left = c .before .before .before .before in last-digit _ _ _ _ _ (left .before .loop .inv) (left .loop-test .left) (c .before .before .if7 .left) (c .before .if8 .left) (c .wide2 .ensures)
+returns-8 c = let left = c .before .before .before .before in ap inForm (last-digit _ _ _ _ _ (left .before .loop .inv) (left .loop-test .left) (c .before .before .if7 .left) (c .before .if8 .left) (c .wide2 .ensures))
 
 pub read-column-spec : {M : Type 1} → statement M
 read-column-spec =

@@ -5,7 +5,7 @@ use Prim.Native.Nat.{_-_, _<_, _≤_}
 use native.Mathlib.Omega.{arith}
 use borrow.Author.Needs.{needs}
 use lib.ListN.{length}
-use Rattle.judging.specs.Found.{onesIn}
+use Rattle.judging.specs.inner.Found.{onesIn}
 use Rattle.judging.proofs.TrailLaws.{ones-more, ones-same}
 use Rattle.judging.proofs.fired_count.Statement.{statement}
 use Rattle.judging.proofs.fired_count.Tie as tie

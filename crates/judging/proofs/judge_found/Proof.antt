@@ -11,7 +11,7 @@ fired-count-requires c κs = search needs
 
 share-requires : tie.Need-share-requires
 share-requires c κs =
-    let start = c .before .before in
+    let start = c .before .before .before .before in
     let few = start .pre .0 .known .table-fits .few in
     let is = c .fired-count .ensures in
     (omega (arith, ones-few (start .args .rules) (start .args .marks .now)), few)
@@ -28,7 +28,7 @@ no-numbers-requires-3 c κs = search needs
 spread-requires : tie.Need-spread-requires
 spread-requires c κs =
     let grids = c .before .before .before in
-    let start = grids .before .before .before .before .before .before in
+    let start = grids .before .before .before .before .before .before .before .before in
     let known = start .pre .0 .known in
     (known .table-fits, found-closed known, grids .before .before .no-numbers .ensures, grids .before .no-numbers2 .ensures .grid, grids .no-numbers3 .ensures .grid, start .pre .2, start .pre .3)
 
@@ -39,7 +39,7 @@ endless-answer-requires : tie.Need-endless-answer-requires
 endless-answer-requires c κs =
     let turned = c .before .before .before in
     let spread = turned .before .spread in
-    let start = turned .before .before .before .before .before .before .before .before .before .before .before in
+    let start = turned .before .before .before .before .before .before .before .before .before .before .before .before .before in
     let known = start .pre .0 .known in
     let turn = turns-back known (spread .ensures) (spread .result - 1) (omega (arith, turned .if1 .taken)) in
     (writers-lent known (spread .ensures) _ (start .pre .1), turn .0, turn .1)
@@ -54,7 +54,7 @@ returns c =
     let spread = turned .before .spread in
     let share = turned .before .before .before .before .before .before .before .before .share in
     let count = turned .before .before .before .before .before .before .before .before .before .fired-count in
-    let start = turned .before .before .before .before .before .before .before .before .before .before .before in
+    let start = turned .before .before .before .before .before .before .before .before .before .before .before .before .before in
     record {
       each = λ numbers known.
           endless-right known (spread .ensures) (count .ensures) (share .ensures) _ _ (start .pre .1) _ _ (omega (arith, turned .if1 .taken)) (call .endless-answer .ensures);
@@ -64,7 +64,7 @@ settled-answer-requires : tie.Need-settled-answer-requires
 settled-answer-requires c κs =
     let rested = c .before .before .before .before in
     let spread = rested .before .spread in
-    let start = rested .before .before .before .before .before .before .before .before .before .before .before in
+    let start = rested .before .before .before .before .before .before .before .before .before .before .before .before .before in
     let known = start .pre .0 .known in
     (writers-lent known (spread .ensures) _ (start .pre .1), spread .ensures .grids .0, lines-lead known (spread .ensures) (rested .if1 .left))
 
@@ -78,7 +78,7 @@ returns-2 c =
     let spread = rested .before .spread in
     let share = rested .before .before .before .before .before .before .before .before .share in
     let count = rested .before .before .before .before .before .before .before .before .before .fired-count in
-    let start = rested .before .before .before .before .before .before .before .before .before .before .before in
+    let start = rested .before .before .before .before .before .before .before .before .before .before .before .before .before in
     record {
       each = λ numbers known.
           settled-right known (spread .ensures) (count .ensures) (share .ensures) _ _ (start .pre .1) _ (rested .if1 .left) (call .settled-answer .ensures);

@@ -1,12 +1,13 @@
--- `pattern_table` meets its contract: the constant table holds the rows of the patterns. Assumes nothing.
-use mathlib.Core.Path.{refl}
-use Rattle.patterns.specs.Pattern.{led, goingOn, patternsTo, patterns, rows, patternTable}
+-- `pattern_table` meets its contract: a table that passes the test is the table of patterns. Assumes nothing.
+use Rattle.patterns.proofs.PatternTest.{table-is}
 use Rattle.patterns.proofs.pattern_table.Statement.{statement}
 use Rattle.patterns.proofs.pattern_table.Tie as tie
 
+tested-table-requires : tie.Need-tested-table-requires
+tested-table-requires c κs = tt
+
 returns : tie.Need-returns
-unfolding patternTable rows patterns patternsTo goingOn led
-returns c = refl
+returns c = table-is _ (c .tested-table .ensures)
 
 pub pattern-table-spec : {M : Type 1} → statement M
-pattern-table-spec = tie.close (tie.spec returns)
+pattern-table-spec = tie.close (tie.spec tested-table-requires returns)

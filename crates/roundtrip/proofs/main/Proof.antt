@@ -1,77 +1,39 @@
-use mathlib.Core.Path.{_≡_, refl, sym, subst, ap, _∙_}
-use mathlib.Core.Logic.{⊎-elim}
-use mathlib.Core.List.{List, [], _∷_}
-use Prim.Native.Nat.{ℕ, _+_, _-_, _*_, _<_, _≤_}
-use native.Mathlib.Omega.{arith}
+-- `roundtrip::main` is safe and ends: what was read lies in the buffer. Assumes nothing.
+use mathlib.Core.Path.{_≡_}
+use Prim.Native.Nat.{_≤_}
 use borrow.Author.Needs.{needs}
-use lib.ListN.{length, getD, set, length-set}
-use lib.Seq.{length-take-le}
-use Rattle.sheet.proofs.Counts.{read-counts}
+use lib.ListN.{length, take}
 use Rattle.roundtrip.proofs.main.Statement.{statement}
 use Rattle.roundtrip.proofs.main.Tie as tie
-use Rattle.roundtrip.proofs.main.Reads as reads
-use Rattle.roundtrip.proofs.main.Lts as lts
-use Rattle.io.proofs.read_full.Reads as read-full-reads
-use Rattle.roundtrip.proofs.print_refusal.Reads as print-refusal-reads
-use Rattle.roundtrip.proofs.print_text.Reads as print-text-reads
-use Rattle.roundtrip.proofs.room_for_input.Reads as room-for-input-reads
-use Rattle.roundtrip.proofs.room_for_lines.Reads as room-for-lines-reads
-use Rattle.sheet.proofs.read.Reads as read-reads
 
--- what was read fits the room
-read : (c : tie.After-count) → 8 * c .count .given .0 .0 ≤ 12320
-read c =
-    let r = c .before .before .before in
-    let h = read-counts _ _ _ _ (rw (c .count .given .1) at (r .read .ensures)) in
-    omega (arith, h, r .before .before .before .room-for-lines .ensures)
+counts : (c : tie.After-size)
+    → (c .size .given .0 .0 ≤ length (c .before .before .before .read-input .last .1 .0))
+    × (c .size .given .0 .0 ≡ length (take (c .size .given .0 .0) (c .before .before .before .read-input .last .1 .0)))
+counts c = rw (c .size .given .1) at (c .before .before .before .read-input .ensures)
 
 room-for-input-requires : tie.Need-room-for-input-requires
 room-for-input-requires c κs = search needs
 
-slice-aggregate-read-full : tie.Need-slice-aggregate-read-full
-slice-aggregate-read-full c = search needs
+slice-aggregate-read-input : tie.Need-slice-aggregate-read-input
+slice-aggregate-read-input c = search needs
 
-read-full-requires : tie.Need-read-full-requires
-read-full-requires c κs = search needs
+read-input-requires : tie.Need-read-input-requires
+read-input-requires c κs = search needs
 
-room-for-lines-requires : tie.Need-room-for-lines-requires
-room-for-lines-requires c κs = search needs
+enum-known-size : tie.Need-enum-known-size
+enum-known-size c = search needs
 
 array-share-prefix-text : tie.Need-array-share-prefix-text
-array-share-prefix-text c = search needs
+array-share-prefix-text c = counts (c .before) .0
 
-slice-aggregate-read : tie.Need-slice-aggregate-read
-slice-aggregate-read c = search needs
+slice-aggregate-print-read : tie.Need-slice-aggregate-print-read
+slice-aggregate-print-read c = counts (c .before .before) .1
 
-slice-aggregate-read-2 : tie.Need-slice-aggregate-read-2
-slice-aggregate-read-2 c = search needs
+print-read-requires : tie.Need-print-read-requires
+print-read-requires c κs = search needs
 
-read-requires : tie.Need-read-requires
-read-requires c κs = search needs
-
-enum-known-count : tie.Need-enum-known-count
-enum-known-count c = search needs
-
-mul-used : tie.Need-mul-used
-mul-used c = let h = read (c .before) in search needs
-
-array-share-prefix-lines : tie.Need-array-share-prefix-lines
-array-share-prefix-lines c = let h = read (c .before) in search needs
-
-slice-aggregate-print-text : tie.Need-slice-aggregate-print-text
-slice-aggregate-print-text c =
-    let r = c .before .before .before .before .before in
-    let h = read (c .before .before) in
-    sym (length-take-le _ _ (omega (arith, h, r .read .kept .1 .0, r .before .before .before .room-for-lines .ensures)))
-
-print-text-requires : tie.Need-print-text-requires
-print-text-requires c κs = search needs
-
-enum-known-refusal : tie.Need-enum-known-refusal
-enum-known-refusal c = search needs
-
-print-refusal-requires : tie.Need-print-refusal-requires
-print-refusal-requires c κs = search needs
+enum-told : tie.Need-enum-told
+enum-told c = search needs
 
 returns : tie.Need-returns
 returns c = search needs
@@ -84,19 +46,12 @@ main-spec =
     tie.close
     (tie.spec
     room-for-input-requires
-    slice-aggregate-read-full
-    read-full-requires
-    room-for-lines-requires
+    slice-aggregate-read-input
+    read-input-requires
+    enum-known-size
     array-share-prefix-text
-    slice-aggregate-read
-    slice-aggregate-read-2
-    read-requires
-    enum-known-count
-    mul-used
-    array-share-prefix-lines
-    slice-aggregate-print-text
-    print-text-requires
-    enum-known-refusal
-    print-refusal-requires
+    slice-aggregate-print-read
+    print-read-requires
+    enum-told
     returns
     returns-2)

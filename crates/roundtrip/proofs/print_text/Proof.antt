@@ -1,20 +1,12 @@
-use mathlib.Core.Path.{_≡_, refl, sym, subst, ap, _∙_}
-use mathlib.Core.Logic.{⊎-elim}
-use mathlib.Core.List.{List, [], _∷_}
-use Prim.Native.Nat.{ℕ, _+_, _-_, _*_, _<_, _≤_}
+-- `roundtrip::print_text` meets its contract: what was written lies in the text. Assumes nothing.
+use mathlib.Core.Path.{sym}
+use Prim.Native.Nat.{_≤_}
 use native.Mathlib.Omega.{arith}
 use borrow.Author.Needs.{needs}
-use lib.ListN.{length, getD, set, length-set}
 use lib.Seq.{length-take-le}
 use Rattle.sheet.proofs.Counts.{write-counts}
 use Rattle.roundtrip.proofs.print_text.Statement.{statement}
 use Rattle.roundtrip.proofs.print_text.Tie as tie
-use Rattle.roundtrip.proofs.print_text.Reads as reads
-use Rattle.roundtrip.proofs.print_text.Lts as lts
-use Rattle.io.proofs.write_all.Reads as write-all-reads
-use Rattle.roundtrip.proofs.print_refusal.Reads as print-refusal-reads
-use Rattle.roundtrip.proofs.room_for_text.Reads as room-for-text-reads
-use Rattle.sheet.proofs.write.Reads as write-reads
 
 -- what was written fits the room
 wrote : (c : tie.After-size) → c .size .given .0 .0 ≤ 32768
@@ -38,14 +30,14 @@ enum-known-size c = search needs
 array-share-prefix-text : tie.Need-array-share-prefix-text
 array-share-prefix-text c = let h = wrote (c .before) in search needs
 
-slice-aggregate-write-all : tie.Need-slice-aggregate-write-all
-slice-aggregate-write-all c =
+slice-aggregate-print : tie.Need-slice-aggregate-print
+slice-aggregate-print c =
     let w = c .before .before .before .before .before in
     let h = wrote (c .before .before) in
     sym (length-take-le _ _ (omega (arith, h, w .write .kept .1 .0, w .before .before .room-for-text .ensures)))
 
-write-all-requires : tie.Need-write-all-requires
-write-all-requires c κs = search needs
+print-requires : tie.Need-print-requires
+print-requires c κs = search needs
 
 enum-known-refusal : tie.Need-enum-known-refusal
 enum-known-refusal c = search needs
@@ -68,8 +60,8 @@ print-text-spec =
     write-requires
     enum-known-size
     array-share-prefix-text
-    slice-aggregate-write-all
-    write-all-requires
+    slice-aggregate-print
+    print-requires
     enum-known-refusal
     print-refusal-requires
     returns

@@ -4,7 +4,7 @@ use borrow.Author.Needs.{needs}
 use denote.Ref.{now}
 use Rattle.patterns.specs.Outcome.{good, mapGood}
 use Rattle.sheet.specs.Write.{sheetHeld}
-use Rattle.sheet.specs.Inner.{measuredSays, sizeOf}
+use Rattle.sheet.specs.inner.Promises.{measuredSays, sizeOf}
 use Rattle.sheet.proofs.Writing.{write-wrong, write-long, write-short, text-fits, write-good}
 use Rattle.sheet.proofs.write.Statement.{statement}
 use Rattle.sheet.proofs.write.Tie as tie

@@ -5,7 +5,7 @@ use mathlib.Core.Logic.{⊎-elim}
 use Prim.Native.Nat.{ℕ, _+_, _-_, _≤_}
 use native.Mathlib.Omega.{arith}
 use borrow.Author.Needs.{needs}
-use Rattle.walker.specs.Walk.{Clear}
+use Rattle.walker.specs.inner.Clear.{Clear}
 use Rattle.walker.proofs.Walking.{clear-start, clear-more}
 use Rattle.walker.proofs.clear16.Statement.{statement}
 use Rattle.walker.proofs.clear16.Tie as tie

@@ -4,7 +4,7 @@ use native.Mathlib.Omega.{arith}
 use borrow.Author.Needs.{needs}
 use borrow.Author.Tests.{not-false}
 use lib.ListN.{length}
-use Rattle.walker.specs.Walk.{Clear}
+use Rattle.walker.specs.inner.Clear.{Clear}
 use Rattle.walker.proofs.Walking.{clear-start, clear-join}
 use Rattle.walker.proofs.skip.Statement.{statement}
 use Rattle.walker.proofs.skip.Tie as tie

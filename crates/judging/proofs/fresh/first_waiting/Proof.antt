@@ -3,7 +3,7 @@ use Prim.Native.Nat.{ℕ, _-_, _≤_, _<_}
 use native.Mathlib.Omega.{arith}
 use borrow.Author.Needs.{needs}
 use lib.ListN.{getD, length-replicate}
-use Rattle.judging.specs.Fresh.{FirstWaiting}
+use Rattle.judging.specs.inner.Fresh.{FirstWaiting}
 use Rattle.judging.proofs.FreshLaws.{first-none, first-more, first-all}
 use Rattle.judging.proofs.fresh.first_waiting.Statement.{statement}
 use Rattle.judging.proofs.fresh.first_waiting.Tie as tie

@@ -4,7 +4,7 @@ use Prim.Native.Nat.{ℕ, _-_, _≤_}
 use native.Mathlib.Omega.{arith}
 use borrow.Author.Needs.{needs}
 use lib.ListN.{length-replicate}
-use Rattle.judging.specs.Fresh.{FreshKinds}
+use Rattle.judging.specs.inner.Fresh.{FreshKinds}
 use Rattle.judging.proofs.FreshLaws.{kinds-none, kinds-same, kinds-more, kinds-all}
 use Rattle.judging.proofs.KindLaws.{kind-low}
 use Rattle.judging.proofs.fresh.fresh_kinds.Statement.{statement}

@@ -1,19 +1,20 @@
 -- `judging::search::search` meets its contract. Each loop keeps where the search stands; each branch is an event of it. The measures are what is left of the H lines, the rules and the 512 places. Assumes nothing.
-use mathlib.Core.Path.{_≡_, refl, _∙_, ap}
+use mathlib.Core.Path.{_≡_, refl, sym, _∙_, ap}
 use mathlib.Core.List.{List}
 use mathlib.Core.Logic.{⊎-elim}
 use Prim.Native.Nat.{ℕ, _+_, _-_, _*_, _≤_, _<_}
 use native.Mathlib.Omega.{arith}
 use borrow.Author.Needs.{needs}
+use lib.ListN.{length}
 use mathlib.Core.Bool.{true, false}
 use Rattle.patterns.specs.Pattern.{digitsOf, patternTable, digitsIn}
 use Rattle.patterns.proofs.PatternRows.{table-rows}
-use Rattle.judging.specs.Table.{ruleIn, rowBytes, rulesIn, rowsIn}
-use Rattle.judging.specs.Codes.{FiresOn}
+use Rattle.judging.specs.inner.Table.{ruleIn, rowBytes, rulesIn, rowsIn}
+use Rattle.judging.specs.inner.Codes.{FiresOn}
 use Rattle.judging.proofs.FoundLaws.{zeros, zero-at}
 use Rattle.judging.proofs.KindLaws.{first-place, fired-place, fire-from}
 use Rattle.judging.proofs.SearchLaws.{turn, Doing, Ruled, Ruling, Heading, doing-begun, ruling-first, ruling-fires, ruling-next, ruling-last, heading-last, heading-same, heading-below, heading-four, heading-seen, heading-push, heading-more, try-all}
-use Rattle.judging.proofs.NoteLaws.{Noting, noting-begun, noting-seen, noting-new, noting-rule, noting-next, noting-shape, noting-all, new-there, seen-there}
+use Rattle.judging.proofs.NoteLaws.{Noting, noting-begun, noting-seen, noting-new, noting-rule, noting-next, noting-shape, noting-all, noting-room, new-there, seen-there}
 use Rattle.judging.proofs.search.search.Statement.{statement}
 use Rattle.judging.proofs.search.search.Tie as tie
 
@@ -22,32 +23,32 @@ looked-up : (t : List ℕ) (n : ℕ) {d : List ℕ} → d ≡ digitsIn t n → t
 looked-up t n e p = e ∙ ap (λ u. digitsIn u n) p ∙ table-rows n
 
 abbrev Inv-loop2 : tie.InvT-loop2
-Inv-loop2 lines table rules kinds shapes₀ index₀ parents₀ makers₀ headers₀ firings₀ targets₀ starts fired count₀ full₀ patterns k₀ s shape kind digits r heads h₀ shapes index parents makers headers firings targets count full k h =
+Inv-loop2 lines table rules kinds shapes₀ index₀ parents₀ makers₀ headers₀ firings₀ targets₀ starts fired rows count₀ full₀ patterns k₀ s shape kind digits r heads h₀ shapes index parents makers headers firings targets count full k h =
     (full ≡ false) × Heading (rulesIn lines) (rowsIn lines) table digits rules shape kind s r heads h shapes index parents makers headers fired count
-    × Noting table rules shapes index firings targets starts s k r h
+    × Noting (length firings₀) table rules shapes index firings targets starts s k r h
 
 abbrev μ-loop2 : tie.MeasureT-loop2
-μ-loop2 lines table rules kinds shapes₀ index₀ parents₀ makers₀ headers₀ firings₀ targets₀ starts fired count₀ full₀ patterns k₀ s shape kind digits r heads h₀ shapes index parents makers headers firings targets count full k h =
+μ-loop2 lines table rules kinds shapes₀ index₀ parents₀ makers₀ headers₀ firings₀ targets₀ starts fired rows count₀ full₀ patterns k₀ s shape kind digits r heads h₀ shapes index parents makers headers firings targets count full k h =
     heads - h
 
 abbrev Inv-loop : tie.InvT-loop
-Inv-loop lines table rules kinds shapes₀ index₀ parents₀ makers₀ headers₀ firings₀ targets₀ starts fired₀ count₀ full₀ patterns k₀ s shape kind digits r₀ shapes index parents makers headers firings targets fired count full k r =
+Inv-loop lines table rules kinds shapes₀ index₀ parents₀ makers₀ headers₀ firings₀ targets₀ starts fired₀ rows count₀ full₀ patterns k₀ s shape kind digits r₀ shapes index parents makers headers firings targets fired count full k r =
     (full ≡ false) × (r < rules → FiresOn (ruleIn (rowBytes table r)) kind digits true)
     × Ruling (rulesIn lines) (rowsIn lines) table digits rules shape kind s r shapes index parents makers headers fired count
-    × Noting table rules shapes index firings targets starts s k r 0
+    × Noting (length firings₀) table rules shapes index firings targets starts s k r 0
 
 abbrev μ-loop : tie.MeasureT-loop
-μ-loop lines table rules kinds shapes₀ index₀ parents₀ makers₀ headers₀ firings₀ targets₀ starts fired₀ count₀ full₀ patterns k₀ s shape kind digits r₀ shapes index parents makers headers firings targets fired count full k r =
+μ-loop lines table rules kinds shapes₀ index₀ parents₀ makers₀ headers₀ firings₀ targets₀ starts fired₀ rows count₀ full₀ patterns k₀ s shape kind digits r₀ shapes index parents makers headers firings targets fired count full k r =
     rules - r
 
 abbrev Inv-search : tie.InvT-search
-Inv-search lines table rules kinds shapes₀ index₀ parents₀ makers₀ headers₀ firings₀ targets₀ starts₀ fired₀ count₀ full₀ patterns k₀ s₀ shapes index parents makers headers firings targets starts fired count full k s =
+Inv-search lines table rules kinds shapes₀ index₀ parents₀ makers₀ headers₀ firings₀ targets₀ starts₀ fired₀ rows count₀ full₀ patterns k₀ s₀ shapes index parents makers headers firings targets starts fired count full k s =
     (full ≡ false) × (s ≤ count) × Ruled (rulesIn lines) table rules
     × Doing (rulesIn lines) (rowsIn lines) shapes index parents makers headers fired count (turn s 0 0) (256 * s)
-    × Noting table rules shapes index firings targets starts s k 0 0
+    × Noting (length firings₀) table rules shapes index firings targets starts s k 0 0
 
 abbrev μ-search : tie.MeasureT-search
-μ-search lines table rules kinds shapes₀ index₀ parents₀ makers₀ headers₀ firings₀ targets₀ starts₀ fired₀ count₀ full₀ patterns k₀ s₀ shapes index parents makers headers firings targets starts fired count full k s =
+μ-search lines table rules kinds shapes₀ index₀ parents₀ makers₀ headers₀ firings₀ targets₀ starts₀ fired₀ rows count₀ full₀ patterns k₀ s₀ shapes index parents makers headers firings targets starts fired count full k s =
     512 - s
 
 find-rows-requires :
@@ -70,12 +71,12 @@ element-write-starts c = search needs
 
 search-holds : tie.Need-search-holds Inv-loop2 μ-loop2 Inv-loop μ-loop Inv-search μ-search
 search-holds c =
-    let s = c .before .before .before .before .before .before .before .before .before in (
+    let s = c .before .before .before .before .before .before .before .before .before .before .before in (
       refl,
       omega arith,
       record { fits = s .pre .1; are = s .pre .2 },
       doing-begun (zeros 256) (c .before .before .find-rows .ensures .found (c .before .if1 .left)) (record { size = refl; zeros = zero-at 256 }),
-      noting-begun (s .args .starts .now) (s .pre .9) (s .pre .10) (s .pre .11),
+      noting-begun (s .args .starts .now) refl (s .pre .10) (s .pre .11),
     )
 
 mul-shape : tie.Need-mul-shape Inv-loop2 μ-loop2 Inv-loop μ-loop Inv-search μ-search
@@ -109,7 +110,7 @@ next-fire-requires c κs =
     let d = looked-up _ _ (c .digits-in .ensures) (c .before .before .before .before .before .pattern-table .ensures) in
     let x = ruling-first _ _ _ (i .2) (i .3) refl (c .before .before .before .search-test .taken) refl d in
     let b = i .3 .kept .small _ (c .before .before .before .search-test .taken) in
-    (i .2 .fits, c .before .before .before .before .before .before .before .before .before .before .before .before .before .before .pre .8, first-place _ (omega arith), x .on .digits-fit)
+    (i .2 .fits, c .before .before .before .before .before .before .before .before .before .before .before .before .before .before .before .before .pre .8, first-place _ (omega arith), x .on .digits-fit)
 
 loop-holds : tie.Need-loop-holds Inv-loop2 μ-loop2 Inv-loop μ-loop Inv-search μ-search
 loop-holds c =
@@ -118,7 +119,7 @@ loop-holds c =
     let f = fire-from 0 (omega arith) (c .next-fire .ensures) in
     let d = looked-up _ _ (c .before .digits-in .ensures) (c .before .before .before .before .before .before .pattern-table .ensures) in
     let x = ruling-first _ _ _ (i .2) (i .3) refl (c .before .before .before .before .search-test .taken) refl d in
-    (i .0, f .fires, ruling-next x f, noting-next (i .4) (x .on) (x .here) f)
+    (i .0, f .fires, ruling-next x f, noting-next (noting-room (sym (i .4 .size-firings)) (i .4)) (x .on) (x .here) f)
 
 array-write-fired :
     tie.Need-array-write-fired Inv-loop2 μ-loop2 Inv-loop μ-loop Inv-search μ-search
@@ -132,7 +133,7 @@ loop2-holds : tie.Need-loop2-holds Inv-loop2 μ-loop2 Inv-loop μ-loop Inv-searc
 loop2-holds c =
     let i = c .before .before .loop .inv in
     let l = c .before .loop-test .taken in
-    (i .0, ruling-fires (i .2) _ (i .1 l) l (c .rule-byte .ensures .0), i .3)
+    (i .0, ruling-fires (i .2) _ (i .1 l) l (c .rule-byte .ensures .0), noting-room (sym (i .3 .size-firings)) (i .3))
 
 made-requires : tie.Need-made-requires Inv-loop2 μ-loop2 Inv-loop μ-loop Inv-search μ-search
 made-requires c κs = let x = c .before .loop2 .inv .1 in (x .ruled .fits, x .r-low, heading-below x (c .loop2-test .taken), x .on .digits-fit)
@@ -185,8 +186,7 @@ note-requires c κs =
     let low = x .r-low in
     let four = heading-four x in
     let up = x .h-low in (
-      i .2 .size-firings,
-      i .2 .size-targets,
+      i .2 .size-targets ∙ sym (i .2 .size-firings),
       omega arith,
       ⊎-elim (λ w. new-there x _ is (w .9 ∙ w .7 .ensures .1)) (λ w. seen-there x _ is (w .0 .left) (w .2)) (j .if2 .came),
     )
@@ -202,11 +202,11 @@ loop2-less c = search needs
 
 loop2-again : tie.Need-loop2-again Inv-loop2 μ-loop2 Inv-loop μ-loop Inv-search μ-search
 loop2-again c =
-    let j = c .before .before .before .before in
+    let j = c .before .before .before .before .before .before .before .before in
     let i = j .before .before .before .before .loop2 .inv in
     let m = j .before .before .made in
     let t = j .before .before .before .loop2-test .taken in
-    let note = c .note .ensures in (
+    let note = c .before .before .before .before .note .ensures in (
       i .0,
       ⊎-elim
           (λ w.
@@ -228,7 +228,7 @@ next-fire-requires-2 :
     tie.Need-next-fire-requires-2 Inv-loop2 μ-loop2 Inv-loop μ-loop Inv-search μ-search
 next-fire-requires-2 c κs =
     let x = c .before .loop2 .inv .1 in
-    (x .ruled .fits, c .before .before .before .before .before .before .before .before .before .before .before .before .before .before .before .before .before .before .before .before .pre .8, fired-place _ _ (x .on .kind-is) (x .applies) (x .r-low), x .on .digits-fit)
+    (x .ruled .fits, c .before .before .before .before .before .before .before .before .before .before .before .before .before .before .before .before .before .before .before .before .before .before .pre .8, fired-place _ _ (x .on .kind-is) (x .applies) (x .r-low), x .on .digits-fit)
 
 loop-less : tie.Need-loop-less Inv-loop2 μ-loop2 Inv-loop μ-loop Inv-search μ-search
 loop-less c =
@@ -243,7 +243,7 @@ loop-again c =
     let y = heading-last x (c .before .loop2-test .left) in
     let are = x .heads-are in
     let up = x .h-low in
-    (i .0, f .fires, ruling-next y f, noting-next (noting-rule (i .2) (let left = c .before .loop2-test .left in omega arith) (omega (arith, heading-four x))) (x .on) (x .here) f)
+    (i .0, f .fires, ruling-next y f, noting-next (noting-rule (noting-room (c .before .before .before .before .before .loop .inv .3 .size-firings) (i .2)) (let left = c .before .loop2-test .left in omega arith) (omega (arith, heading-four x))) (x .on) (x .here) f)
 
 cast-starts : tie.Need-cast-starts Inv-loop2 μ-loop2 Inv-loop μ-loop Inv-search μ-search
 cast-starts c = search needs
@@ -269,7 +269,13 @@ search-again c =
     let i = c .before .loop .inv in
     let l = i .2 .s-low in
     let few = i .2 .doing .kept .few in
-    (i .0, omega arith, i .2 .ruled, ruling-last (i .2) (c .loop-test .left), noting-shape (i .3) (i .2 .r-low) (c .loop-test .left) (i .2 .ruled .fits .few) (omega arith))
+    (i .0, omega arith, i .2 .ruled, ruling-last (i .2) (c .loop-test .left), noting-shape (noting-room (c .before .before .before .before .before .before .before .search .inv .4 .size-firings) (i .3)) (i .2 .r-low) (c .loop-test .left) (i .2 .ruled .fits .few) (omega arith))
+
+same-length : tie.Need-same-length Inv-loop2 μ-loop2 Inv-loop μ-loop Inv-search μ-search
+same-length c = c .before .search .inv .4 .size-firings
+
+same-length-2 : tie.Need-same-length-2 Inv-loop2 μ-loop2 Inv-loop μ-loop Inv-search μ-search
+same-length-2 c = c .before .search .inv .4 .size-targets ∙ sym (c .before .before .before .before .before .before .before .before .before .before .before .before .before .pre .10)
 
 returns-2 : tie.Need-returns-2 Inv-loop2 μ-loop2 Inv-loop μ-loop Inv-search μ-search
 returns-2 c =
@@ -278,8 +284,17 @@ returns-2 c =
         all = λ _. try-all (i .2) _ (c .search-test .left) (i .3);
         more = λ e. let z : _≡_ {A = ℕ} 0 1 = cc (i .0, e) in let y : ⊥ = omega arith in absurd y;
       },
-      λ _. noting-all (i .4) (c .search-test .left),
+      λ _. noting-all (i .4) (c .search-test .left) (c .before .before .before .before .before .before .before .before .before .before .before .before .before .pre .9),
     )
+
+same-length-3 : tie.Need-same-length-3 Inv-loop2 μ-loop2 Inv-loop μ-loop Inv-search μ-search
+same-length-3 c =
+    c .before .before .before .before .before .loop2 .inv .2 .size-firings ∙ c .before .before .before .before .before .before .before .before .loop .inv .3 .size-firings ∙ c .before .before .before .before .before .before .before .before .before .before .before .before .before .before .search .inv .4 .size-firings
+
+same-length-4 : tie.Need-same-length-4 Inv-loop2 μ-loop2 Inv-loop μ-loop Inv-search μ-search
+same-length-4 c =
+    c .before .before .before .before .before .loop2 .inv .2 .size-targets ∙ c .before .before .before .before .before .before .before .before .loop .inv .3 .size-firings ∙ c .before .before .before .before .before .before .before .before .before .before .before .before .before .before .search .inv .4 .size-firings
+    ∙ sym (c .before .before .before .before .before .before .before .before .before .before .before .before .before .before .before .before .before .before .before .before .before .before .before .before .before .before .pre .10)
 
 returns-3 : tie.Need-returns-3 Inv-loop2 μ-loop2 Inv-loop μ-loop Inv-search μ-search
 returns-3 c =
@@ -347,5 +362,9 @@ search-spec =
     add-s
     search-less
     search-again
+    same-length
+    same-length-2
     returns-2
+    same-length-3
+    same-length-4
     returns-3)

@@ -3,7 +3,7 @@ use mathlib.Core.Path.{sym, subst}
 use Prim.Native.Nat.{_+_, _-_}
 use native.Mathlib.Omega.{arith}
 use borrow.Author.Needs.{needs}
-use Rattle.judging.specs.Firing.{kindByte, NextOf}
+use Rattle.judging.specs.inner.Firing.{kindByte, NextOf}
 use Rattle.judging.proofs.KindLaws.{Passed, place-low, place-next, passed-first, passed-next}
 use Rattle.judging.proofs.shape.next_fire.Statement.{statement}
 use Rattle.judging.proofs.shape.next_fire.Tie as tie

@@ -4,7 +4,7 @@ use mathlib.Core.Logic.{inl, inr}
 use Prim.Native.Nat.{ℕ, _+_, _*_}
 use native.Mathlib.Omega.{arith}
 use borrow.Author.Needs.{needs}
-use Rattle.judging.specs.Nodes.{weight}
+use Rattle.judging.specs.inner.Nodes.{weight}
 use Rattle.judging.proofs.PassLaws.{stopped, calm, lifted}
 use Rattle.judging.proofs.spread.follow.Statement.{statement}
 use Rattle.judging.proofs.spread.follow.Tie as tie

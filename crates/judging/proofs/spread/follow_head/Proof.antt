@@ -3,8 +3,8 @@ use mathlib.Core.Logic.{⊎-elim}
 use Prim.Native.Nat.{_-_, _≤_}
 use native.Mathlib.Omega.{arith}
 use borrow.Author.Needs.{needs}
-use Rattle.judging.specs.Table.{rowBytes}
-use Rattle.judging.specs.Passes.{Done, Upto, FieldE}
+use Rattle.judging.specs.inner.Table.{rowBytes}
+use Rattle.judging.specs.inner.Passes.{Done, Upto, FieldE}
 use Rattle.judging.proofs.PassLaws.{none, next, whole, arrived}
 use Rattle.judging.proofs.LinkLaws.{place-read, fresh-field, carried-field}
 use Rattle.judging.proofs.spread.follow_head.Statement.{statement}

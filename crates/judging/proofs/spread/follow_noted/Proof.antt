@@ -2,8 +2,8 @@
 use Prim.Native.Nat.{_-_, _≤_}
 use native.Mathlib.Omega.{arith}
 use borrow.Author.Needs.{needs}
-use Rattle.judging.specs.Passes.{Done}
-use Rattle.judging.specs.Noted.{NotesE}
+use Rattle.judging.specs.inner.Passes.{Done}
+use Rattle.judging.specs.inner.Noted.{NotesE}
 use Rattle.judging.proofs.NoteLaws.{notes-none, notes-next, notes-end}
 use Rattle.judging.proofs.spread.follow_noted.Statement.{statement}
 use Rattle.judging.proofs.spread.follow_noted.Tie as tie
@@ -16,37 +16,37 @@ abbrev μ-loop : tie.MeasureT-loop
 μ-loop table n s firings targets first end generations₀ from₀ links₀ waiting₀ before last₀ k₀ generations from links waiting last k = end - k
 
 loop-holds : tie.Need-loop-holds Inv-loop μ-loop
-loop-holds c = (omega arith, c .pre .3, notes-none (c .pre .6))
+loop-holds c = (omega arith, c .before .before .pre .2, notes-none (c .before .before .pre .5))
 
 mul-link : tie.Need-mul-link Inv-loop μ-loop
 mul-link c = search needs
 
-element-copy-out-link : tie.Need-element-copy-out-link Inv-loop μ-loop
-element-copy-out-link c = search needs
+shared-slice-read-link : tie.Need-shared-slice-read-link Inv-loop μ-loop
+shared-slice-read-link c = search needs
 
 cast-link : tie.Need-cast-link Inv-loop μ-loop
 cast-link c =
-    let s = c .before .before .before in
-    let f = s .pre .5 (c .before .before .loop .k) (c .before .before .loop .inv .0) (c .before .loop-test .taken) .rule in omega arith
+    let s = c .before .before .before .before .before in
+    let f = s .pre .4 (c .before .before .loop .k) (c .before .before .loop .inv .0) (c .before .loop-test .taken) .rule in omega arith
 
 mul-follow-head : tie.Need-mul-follow-head Inv-loop μ-loop
 mul-follow-head c = search needs
 
-element-copy-out-follow-head : tie.Need-element-copy-out-follow-head Inv-loop μ-loop
-element-copy-out-follow-head c = search needs
+shared-slice-read-follow-head : tie.Need-shared-slice-read-follow-head Inv-loop μ-loop
+shared-slice-read-follow-head c = search needs
 
 cast-follow-head : tie.Need-cast-follow-head Inv-loop μ-loop
 cast-follow-head c =
-    let s = c .before .before .before .before in
-    let m = s .pre .6 .small in
-    let f = s .pre .5 (c .before .before .before .loop .k) (c .before .before .before .loop .inv .0) (c .before .before .loop-test .taken) .place in omega arith
+    let s = c .before .before .before .before .before .before in
+    let m = s .pre .5 .small in
+    let f = s .pre .4 (c .before .before .before .loop .k) (c .before .before .before .loop .inv .0) (c .before .before .loop-test .taken) .place in omega arith
 
 follow-head-requires : tie.Need-follow-head-requires Inv-loop μ-loop
 follow-head-requires c κs =
     let l = c .before .before .before .before .before .before .before in
-    let s = l .before in
-    let f = s .pre .5 (l .loop .k) (l .loop .inv .0) (c .before .before .before .before .before .before .loop-test .taken) in
-    (s .pre .0, f .rule, f .line, l .loop .inv .2 .live, s .pre .7, f .place)
+    let s = l .before .before .before in
+    let f = s .pre .4 (l .loop .k) (l .loop .inv .0) (c .before .before .before .before .before .before .loop-test .taken) in
+    (s .pre .0, f .rule, f .line, l .loop .inv .2 .live, s .pre .6, f .place)
 
 add-k : tie.Need-add-k Inv-loop μ-loop
 add-k c = search needs
@@ -71,10 +71,10 @@ follow-noted-spec =
     μ-loop
     loop-holds
     mul-link
-    element-copy-out-link
+    shared-slice-read-link
     cast-link
     mul-follow-head
-    element-copy-out-follow-head
+    shared-slice-read-follow-head
     cast-follow-head
     follow-head-requires
     add-k

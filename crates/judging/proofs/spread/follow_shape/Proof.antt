@@ -1,10 +1,14 @@
 -- `spread::follow_shape` meets its contract: by the notes of the search, or by those made anew. Assumes nothing.
-use mathlib.Core.Path.{refl}
+use mathlib.Core.Path.{refl, sym, _∙_}
 use native.Mathlib.Omega.{arith}
 use borrow.Author.Needs.{needs}
 use Rattle.judging.proofs.NoteLaws.{notes-fit, notes-done, onward-all}
 use Rattle.judging.proofs.spread.follow_shape.Statement.{statement}
 use Rattle.judging.proofs.spread.follow_shape.Tie as tie
+
+cast-room : tie.Need-cast-room
+cast-room c =
+    let few = c .before .before .pre .8 in omega arith
 
 add-if1 : tie.Need-add-if1
 add-if1 c = search needs
@@ -24,9 +28,9 @@ element-copy-out-follow-noted c = search needs
 cast-follow-noted : tie.Need-cast-follow-noted
 cast-follow-noted c =
     let b = c .before in
-    let notes = b .before .before .pre .11 (b .if1 .taken) in
+    let notes = b .before .before .before .before .pre .11 (b .if1 .taken) in
     let low = notes .begun in
-    let high = notes .within in omega arith
+    let few = b .before .before .before .before .pre .8 in omega (arith, b .if1 .taken)
 
 add-follow-noted : tie.Need-add-follow-noted
 add-follow-noted c = search needs
@@ -43,36 +47,43 @@ cast-follow-noted-2 c = search needs
 follow-noted-requires : tie.Need-follow-noted-requires
 follow-noted-requires c κs =
     let b = c .before .before .before .before .before .before in
-    let s = b .before .before in
+    let s = b .before .before .before .before in
     let notes = s .pre .11 (b .if1 .taken) in
-    (s .pre .0 .size, s .pre .8, s .pre .9, notes .begun, notes .within, notes-fit (s .pre .0) notes (s .pre .4), s .pre .5, s .pre .6)
+    (s .pre .0 .size, s .pre .9, notes .begun, b .if1 .taken, notes-fit (s .pre .0) notes (s .pre .4), s .pre .5, s .pre .6)
 
 returns : tie.Need-returns
 returns c =
     let b = c .before .before .before .before .before .before .before in
-    let s = b .before .before in notes-done (s .pre .0) (s .pre .11 (b .if1 .taken)) (c .follow-noted .ensures)
+    let s = b .before .before .before .before in notes-done (s .pre .0) (s .pre .11 (b .if1 .taken)) (c .follow-noted .ensures)
 
 note-shape-requires : tie.Need-note-shape-requires
 note-shape-requires c κs =
-    let s = c .before .before .before .before in
+    let s = c .before .before .before .before .before .before in
     (s .pre .0, s .pre .1, s .pre .2, s .pre .3, onward-all (s .pre .4) (s .pre .5 .small), s .pre .7, refl, refl)
+
+slice-aggregate-follow-noted : tie.Need-slice-aggregate-follow-noted
+slice-aggregate-follow-noted c = search needs
+
+slice-aggregate-follow-noted-2 : tie.Need-slice-aggregate-follow-noted-2
+slice-aggregate-follow-noted-2 c = search needs
 
 follow-noted-requires-2 : tie.Need-follow-noted-requires-2
 follow-noted-requires-2 c κs =
     let m = c .before .before .before .before .before .before in
-    let s = m .before .before .before .before .before in
+    let s = m .before .before .before .before .before .before .before in
     let noted = m .note-shape .ensures in
-    (s .pre .0 .size, noted .0, noted .1, noted .2 .begun, noted .2 .within, notes-fit (s .pre .0) (noted .2) (s .pre .4), s .pre .5, s .pre .6)
+    (s .pre .0 .size, noted .1 ∙ sym (noted .0), noted .3 .begun, rw (noted .0) (noted .2), notes-fit (s .pre .0) (noted .3) (s .pre .4), s .pre .5, s .pre .6)
 
 returns-2 : tie.Need-returns-2
 returns-2 c =
     let m = c .before .before .before .before .before .before .before in
-    let s = m .before .before .before .before .before in notes-done (s .pre .0) (m .note-shape .ensures .2) (c .follow-noted2 .ensures)
+    let s = m .before .before .before .before .before .before .before in notes-done (s .pre .0) (m .note-shape .ensures .3) (c .follow-noted2 .ensures)
 
 pub follow-shape-spec : {M : Type 1} → statement M
 follow-shape-spec =
     tie.close
     (tie.spec
+    cast-room
     add-if1
     mul-if1
     element-copy-out-if1
@@ -86,5 +97,7 @@ follow-shape-spec =
     follow-noted-requires
     returns
     note-shape-requires
+    slice-aggregate-follow-noted
+    slice-aggregate-follow-noted-2
     follow-noted-requires-2
     returns-2)

@@ -1,13 +1,13 @@
 -- `spread::note_shape` meets its contract. Each loop keeps that the firings of the rules, or H lines, so far were noted; a rule that is come to fires. Assumes nothing.
-use mathlib.Core.Path.{_≡_, refl}
+use mathlib.Core.Path.{_≡_, refl, sym, _∙_}
 use mathlib.Core.Bool.{true}
 use Prim.Native.Nat.{_+_, _-_, _<_, _≤_}
 use native.Mathlib.Omega.{arith}
 use borrow.Author.Needs.{needs}
 use lib.ListN.{getD}
 use Rattle.chase.specs.Simplification.{Applies}
-use Rattle.judging.specs.Table.{rowBytes, ruleIn}
-use Rattle.judging.specs.Codes.{shapeAt, FiresOn}
+use Rattle.judging.specs.inner.Table.{rowBytes, ruleIn}
+use Rattle.judging.specs.inner.Codes.{shapeAt, FiresOn}
 use Rattle.judging.proofs.KindLaws.{first-place, fired-place, fire-from}
 use Rattle.judging.proofs.SearchLaws.{Trying, trying, fires-yes}
 use Rattle.judging.proofs.NoteLaws.{Filling, filling-begun, filling-next, filling-rule, filling-all, filling-there, filling-note, heads-few}
@@ -96,7 +96,7 @@ note-requires c κs =
     let e = i .1 in
     let t = m .before .loop2-test .taken in
     let four = heads-few (s .pre .0) low in
-    (x .size-firings, x .size-targets, omega arith, filling-there x (s .pre .0) (s .pre .4) (i .4) low (omega arith) (i .3) (m .made .ensures))
+    (x .size-targets ∙ sym (x .size-firings), omega arith, filling-there x (s .pre .0) (s .pre .4) (i .4) low (omega arith) (i .3) (m .made .ensures))
 
 add-k : tie.Need-add-k Inv-loop2 μ-loop2 Inv-loop μ-loop
 add-k c = search needs
@@ -149,7 +149,10 @@ loop-again c =
 
 returns : tie.Need-returns Inv-loop2 μ-loop2 Inv-loop μ-loop
 returns c =
-    let i = c .before .loop .inv in (i .3 .size-firings, i .3 .size-targets, filling-all (i .3) (i .0) (c .loop-test .left) refl)
+    let i = c .before .loop .inv in
+    let f = i .3 .few in
+    let top = c .before .before .before .before .pre .0 .few in
+    let up = i .0 in (i .3 .size-firings, i .3 .size-targets, omega arith, filling-all (i .3) (i .0) (c .loop-test .left) refl)
 
 pub note-shape-spec : {M : Type 1} → statement M
 note-shape-spec =

@@ -1,7 +1,7 @@
 -- `spread::number` meets its contract. Assumes nothing.
 use mathlib.Core.Path.{refl}
 use borrow.Author.Needs.{needs}
-use Rattle.judging.specs.Nodes.{at}
+use Rattle.judging.specs.inner.Nodes.{at}
 use Rattle.judging.proofs.spread.number.Statement.{statement}
 use Rattle.judging.proofs.spread.number.Tie as tie
 

@@ -2,7 +2,7 @@
 use mathlib.Core.Path.{_∙_}
 use native.Mathlib.Omega.{arith}
 use borrow.Author.Needs.{needs}
-use Rattle.judging.specs.Bytes.{marksAt}
+use Rattle.judging.specs.inner.Bytes.{marksAt}
 use Rattle.judging.proofs.PartLaws.{Placing, placing-none, placing-done, placing-more, mark-before, mark-before-few}
 use Rattle.judging.proofs.table.put_places.Statement.{statement}
 use Rattle.judging.proofs.table.put_places.Tie as tie

@@ -3,7 +3,7 @@ use mathlib.Core.Path.{sym, _∙_}
 use Prim.Native.Nat.{_+_}
 use native.Mathlib.Omega.{arith}
 use borrow.Author.Needs.{needs}
-use Rattle.judging.specs.Bytes.{ruleAt}
+use Rattle.judging.specs.inner.Bytes.{ruleAt}
 use Rattle.judging.proofs.ByteLaws.{length-headsAt}
 use Rattle.judging.proofs.PartLaws.{part-blank, body-put, body-places, body-blank, rule-put, heads-few}
 use Rattle.judging.proofs.table.put_rule.Statement.{statement}

@@ -3,7 +3,7 @@ use mathlib.Core.Path.{sym, _∙_}
 use Prim.Native.Nat.{_-_, _≤_}
 use native.Mathlib.Omega.{arith}
 use borrow.Author.Needs.{needs}
-use Rattle.judging.specs.Bytes.{marksAt}
+use Rattle.judging.specs.inner.Bytes.{marksAt}
 use Rattle.judging.proofs.ByteLaws.{mark-there}
 use Rattle.judging.proofs.PartLaws.{Sourcing, sourcing-none, sourcing-places, sourcing-more, sourcing-done, mark-few}
 use Rattle.judging.proofs.table.put_sources.Statement.{statement}

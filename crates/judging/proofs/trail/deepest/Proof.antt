@@ -4,7 +4,7 @@ use mathlib.Core.Logic.{⊎-elim}
 use Prim.Native.Nat.{_-_, _≤_}
 use native.Mathlib.Omega.{arith}
 use borrow.Author.Needs.{needs}
-use Rattle.judging.specs.Written.{Deepest}
+use Rattle.judging.specs.inner.Written.{Deepest}
 use Rattle.judging.proofs.TrailLaws.{deepest-node, deepest-raised, deepest-same}
 use Rattle.judging.proofs.trail.deepest.Statement.{statement}
 use Rattle.judging.proofs.trail.deepest.Tie as tie

@@ -51,7 +51,7 @@ used-requires : tie.Need-used-requires Inv-loop μ-loop
 used-requires c κs = search needs
 
 put-line-requires : tie.Need-put-line-requires Inv-loop μ-loop
-put-line-requires c κs = let p = putting (c .before) in (p .few, p .room, p .letter)
+put-line-requires c κs = let p = putting (c .before) in (p .few, p .room, p .letter, p .ranges)
 
 declare-requires : tie.Need-declare-requires Inv-loop μ-loop
 declare-requires c κs = let u = c .before .before .before .before .before in (at-loop u .loop .inv .table .size, putting u .declares)

@@ -11,10 +11,10 @@ use denote.Ref.{now}
 use mir.Syntax.{w32}
 use lib.ListN.{take, drop, replicate, length, getD}
 use Rattle.patterns.specs.Outcome.{refused, mapGood}
-use Rattle.sheet.specs.Line.{Line}
+use Rattle.sheet.specs.Line.{formOf, Line}
 use Rattle.sheet.specs.Write.{sheetHeld}
-use Rattle.sheet.specs.Inner.{Widths, FieldsFit, sizeOf}
-use Rattle.sheet.proofs.FormLaws.{fields-fit}
+use Rattle.sheet.specs.inner.Promises.{Widths, FieldsFit, sizeOf}
+use Rattle.sheet.proofs.FormLaws.{fields-fit, formSays-one-to-one}
 use Rattle.sheet.proofs.OrderLaws.{no-width, keeps-none}
 use Rattle.sheet.proofs.Writing.{Measures, LineAt, not-too-wide, ranges-hold, not-refused, taken, measure-begun, line-wrong, line-taken, rule-without-head, measured, incomplete, size-small}
 use Rattle.sheet.proofs.lent.measure.Statement.{statement}
@@ -122,7 +122,9 @@ admit-requires : tie.Need-admit-requires Inv-loop μ-loop
 admit-requires c κs =
     let u = c .before .before .before .before .before .before in (
       table u .size,
-      subst FieldsFit (sym (c .before .before .take-apart .ensures)) (fields-fit (getD (numbers u) 0 0) (u .used .result + 1)),
+      subst FieldsFit
+          (sym (formSays-one-to-one (c .before .before .take-apart .result) (formOf (getD (numbers u) 0 0) (u .used .result + 1)) (c .before .before .take-apart .ensures)))
+          (fields-fit (getD (numbers u) 0 0) (u .used .result + 1)),
       good-length (eInt w32) 8 (numbers u) _ (u .before .before .numbers-at .ok),
     )
 
@@ -149,7 +151,7 @@ returns-4 c =
     line-is-wrong u
     (λ l a.
     not-refused (before u) (widths u) (table u) (numbers u) (u .used .result) (u .used .ensures) l a (at-loop u .loop .seen) (at-loop u .loop .inv .kept) (t .take-apart .result)
-    (t .take-apart .ensures) (c .before .before .admit .result) (c .before .before .admit .last .1 .0) (c .before .before .admit .ensures) (c .enum-told .given .0 .0)
+    (formSays-one-to-one _ _ (t .take-apart .ensures)) (c .before .before .admit .result) (c .before .before .admit .last .1 .0) (c .before .before .admit .ensures) (c .enum-told .given .0 .0)
     (c .enum-told .given .1))
 
 mul-size : tie.Need-mul-size Inv-loop μ-loop
@@ -186,7 +188,7 @@ loop-again c =
     (u .before .before .numbers-at .ensures) (u .used .result) (t .before .before .before .if2 .left) (omega arith) (c .kept-after .result) (d .admit .last .1 .0)
     (taken (before u) (numbers u) (good-length (eInt w32) 8 (numbers u) _ (u .before .before .numbers-at .ok)) (u .used .result) (t .before .before .before .if2 .left)
     (sym (t .before .before .in-range .ensures) ∙ not-false (t .before .before .in-range .result) (t .before .if3 .left)) (l .loop .seen) (widths u) (l .loop .inv .kept)
-    (t .take-apart .result) (t .take-apart .ensures) (d .admit .result) (d .admit .last .1 .0) (d .admit .ensures) (mark .given .0 .0) (mark .given .1)
+    (t .take-apart .result) (formSays-one-to-one _ _ (t .take-apart .ensures)) (d .admit .result) (d .admit .last .1 .0) (d .admit .ensures) (mark .given .0 .0) (mark .given .1)
     (c .kept-after .result) (c .kept-after .ensures))
 
 add-t31 : tie.Need-add-t31 Inv-loop μ-loop

@@ -7,7 +7,7 @@ use lib.ListN.{length, length-set}
 use native.Mathlib.Numerals.{add-one}
 use lib.Seq.{paste, paste-zero, paste-suc}
 use Rattle.columns.specs.Column.{column}
-use Rattle.columns.proofs.ColumnLaws.{length-column}
+use Rattle.columns.proofs.ColumnLaws.{length-columnFor, columnFor-fits}
 use Rattle.sheet.proofs.lent.put_column.Statement.{statement}
 use Rattle.sheet.proofs.lent.put_column.Tie as tie
 
@@ -45,7 +45,7 @@ loop-again c =
     let loop = c .before .loop in
     let column = c .before .before .column in
     let start = c .before .before .before .before in
-    let size : length (column .result) ≡ 9 = ap length (column .ensures) ∙ length-column (start .args .n) in
+    let size : length (column .result) ≡ 9 = ap length (column .ensures) ∙ length-columnFor (start .args .n) in
     let inv = loop .inv in (
       omega arith,
       simp length-set (inv .1),
@@ -60,7 +60,8 @@ returns c =
     let loop = c .before .loop in
     let all : loop .i ≡ 9 = omega arith in
     let column = c .before .before .column in
-    cc
+    let start = c .before .before .before .before in
+    cc (column .ensures, columnFor-fits (start .args .n) (start .pre .1))
 
 pub put-column-spec : {M : Type 1} → statement M
 put-column-spec =

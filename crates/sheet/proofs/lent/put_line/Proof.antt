@@ -11,7 +11,7 @@ use lib.ListN.{length, getD, set, take, drop, length-set}
 use lib.Seq.{paste, paste-zero}
 use Rattle.columns.specs.Column.{column}
 use Rattle.sheet.specs.Line.{columns}
-use Rattle.sheet.proofs.Writing.{put, columns-long, column-put, line-put}
+use Rattle.sheet.proofs.Writing.{put, number-fits, columns-long, column-put, line-put}
 use Rattle.sheet.proofs.lent.put_line.Statement.{statement}
 use Rattle.sheet.proofs.lent.put_line.Tie as tie
 
@@ -73,7 +73,11 @@ array-read-put-column : tie.Need-array-read-put-column Inv-loop μ-loop
 array-read-put-column c = search needs
 
 put-column-requires : tie.Need-put-column-requires Inv-loop μ-loop
-put-column-requires c κs = let l = c .before .before in let e = long l in omega arith
+put-column-requires c κs =
+    let l = c .before .before in
+    let s = l .before .before in
+    let e = long l in
+    (omega arith, number-fits (s .args .t3) (s .args .fields) (eight l) (s .pre .0) (s .pre .3) (l .loop .c) (c .before .loop-test .taken))
 
 add-c : tie.Need-add-c Inv-loop μ-loop
 add-c c = search needs

@@ -8,11 +8,13 @@ use borrow.Author.Needs.{needs}
 use mathlib.Core.Bool.{true}
 use types.Run.{OneOf, miss}
 use denote.Enum.Declared.{tagOf}
-use Rattle.sheet.specs.Line.{known}
+use Rattle.sheet.specs.Line.{formOf, known, columnCount}
 use Rattle.columns.specs.Column.{numberSays}
 use Rattle.sheet.specs.declared.Form.{Form}
 use Rattle.sheet.specs.declared.Form.the-variants.{Kind, Body, Head, Row, Unknown}
+use Rattle.columns.proofs.ColumnLaws.{inForm-some, inForm-none}
 use Rattle.sheet.proofs.Form.{the-type}
+use Rattle.sheet.proofs.FormLaws.{formSays-one-to-one}
 use Rattle.sheet.proofs.Forms.{Whole, Filled, whole-columns, none-filled, filled-size, one-more-filled, size-wrong, end-wrong, form-wrong, column-wrong, parsed-unknown, parsed-whole}
 use Rattle.sheet.proofs.line.parse.Statement.{statement}
 use Rattle.sheet.proofs.line.parse.Tie as tie
@@ -71,7 +73,8 @@ returns-4 c =
     let s = c .before .before .before .before .before .before .before .before .before .before in
     let line = s .args .line .now in
     let apart = c .before .before in
-    (parsed-unknown line _ _ (form-wrong line (cc (apart .take-apart .ensures, apart .before .wide .ensures, c .enum-told .given .1))) refl, ap length (s .pre))
+    let form-is = formSays-one-to-one (apart .take-apart .result) (formOf (apart .before .wide .result) (columnCount (length line))) (apart .take-apart .ensures) in
+    (parsed-unknown line _ _ (form-wrong line (cc (form-is, apart .before .wide .ensures, c .enum-told .given .1))) refl, ap length (s .pre))
 
 element-write-numbers : tie.Need-element-write-numbers Inv-loop μ-loop
 element-write-numbers c = search needs
@@ -84,7 +87,7 @@ loop-holds c =
         size = c .before .before .before .before .before .before .if2 .left;
         end = c .before .before .before .before .if3 .left;
         letter-is = apart .before .wide .ensures;
-        form-is = apart .take-apart .ensures;
+        form-is = formSays-one-to-one (apart .take-apart .result) (formOf (apart .before .wide .result) _) (apart .take-apart .ensures);
         known-is = known-of-tag (apart .take-apart .result) (c .match .keys2);
       },
       search needs,
@@ -121,7 +124,7 @@ returns-5 c =
     let turn = read .before in
     let loop = turn .before .loop in (
       parsed-unknown _ _ _
-          (column-wrong _ _ _ _ _ (loop .inv .0) (turn .loop-test .taken) (sym (read .number-at .ensures) ∙ ap numberSays (c .enum-told2 .given .1))) refl,
+          (column-wrong _ _ _ _ _ (loop .inv .0) (turn .loop-test .taken) (inForm-none _ (sym (read .number-at .ensures) ∙ ap numberSays (c .enum-told2 .given .1)))) refl,
       filled-size (loop .inv .2),
     )
 
@@ -139,7 +142,7 @@ loop-again c =
       inv .0,
       search needs,
       one-more-filled _ _ _ _ _ (inv .2) (omega (arith, whole-columns _ _ _ _ (inv .0)))
-          (sym (read .number-at .ensures) ∙ ap numberSays (c .before .n .given .1)),
+          (inForm-some _ _ (sym (read .number-at .ensures) ∙ ap numberSays (c .before .n .given .1))),
     )
 
 returns-6 : tie.Need-returns-6 Inv-loop μ-loop

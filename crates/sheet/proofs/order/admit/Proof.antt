@@ -2,7 +2,7 @@
 use mathlib.Core.Path.{refl, subst}
 use mathlib.Core.Bool.{false≢true}
 use borrow.Author.Needs.{needs}
-use Rattle.sheet.specs.Inner.{FieldsFit}
+use Rattle.sheet.specs.inner.Promises.{FieldsFit}
 use Rattle.sheet.proofs.order.admit.Statement.{statement}
 use Rattle.sheet.proofs.order.admit.Tie as tie
 

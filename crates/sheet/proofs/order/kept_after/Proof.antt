@@ -1,7 +1,7 @@
 -- `sheet::order::kept_after` meets its contract. Assumes nothing.
 use mathlib.Core.Path.{refl, subst}
 use borrow.Author.Needs.{needs}
-use Rattle.sheet.specs.Inner.{HasRoom}
+use Rattle.sheet.specs.inner.Promises.{HasRoom}
 use Rattle.sheet.proofs.order.kept_after.Statement.{statement}
 use Rattle.sheet.proofs.order.kept_after.Tie as tie
 

@@ -3,7 +3,7 @@ use mathlib.Core.Path.{subst}
 use native.Mathlib.Omega.{arith}
 use borrow.Author.Needs.{needs}
 use denote.Ref.{now}
-use Rattle.sheet.specs.Inner.{Scanned}
+use Rattle.sheet.specs.inner.Promises.{Scanned}
 use Rattle.sheet.specs.declared.ReadAnswer.{ReadAnswer}
 use Rattle.sheet.specs.declared.ReadAnswer.the-variants.{Lines}
 use Rattle.sheet.proofs.Reading.{read-refused, lines-short, lines-held, lines-copied}

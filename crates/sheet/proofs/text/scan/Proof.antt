@@ -64,7 +64,7 @@ refused-here c =
     let at-admit = c .before .before .before in
     let at-parse = at-admit .before .before .before in
     let in-loop = at-parse .before .before .before in
-    line-refused (in-loop .before .loop .inv) (in-loop .loop-test .taken) (at-parse .before .before .line-from .ensures) (at-parse .parse .ensures .0)
+    line-refused (in-loop .before .loop .inv) (in-loop .loop-test .taken) (at-parse .before .before .line-from .ensures .bytes) (at-parse .parse .ensures .0)
     (at-admit .admit .ensures) (c .before .number .given .0 .0) (c .before .number .given .1)
 
 refusal-at-requires : tie.Need-refusal-at-requires Inv-loop μ-loop
@@ -86,7 +86,7 @@ put-numbers-requires c κs =
     let at-admit = at-mark .before .before in
     let at-parse = at-admit .before .before .before in
     let in-loop = at-parse .before .before .before in (
-      line-fits (in-loop .before .loop .inv) (in-loop .loop-test .taken) (at-parse .before .before .line-from .ensures) (at-parse .parse .ensures .0)
+      line-fits (in-loop .before .loop .inv) (in-loop .loop-test .taken) (at-parse .before .before .line-from .ensures .bytes) (at-parse .parse .ensures .0)
           (at-admit .admit .ensures) (at-mark .mark .given .0 .0) (at-mark .mark .given .1),
       at-parse .parse .ensures .1,
     )
@@ -109,7 +109,7 @@ loop-again c =
     let at-admit = at-mark .before .before in
     let at-parse = at-admit .before .before .before in
     let in-loop = at-parse .before .before .before in
-    line-taken (in-loop .before .loop .inv) (in-loop .loop-test .taken) (at-parse .before .before .line-from .ensures) (at-parse .parse .ensures .0)
+    line-taken (in-loop .before .loop .inv) (in-loop .loop-test .taken) (at-parse .before .before .line-from .ensures .bytes) (at-parse .parse .ensures .0)
     (at-admit .admit .ensures) (at-mark .mark .given .0 .0) (at-mark .mark .given .1) (at-kept .kept-after .result) (at-kept .kept-after .ensures)
     (at-put .put-numbers .last .0) (at-put .put-numbers .ensures)
 

@@ -1,0 +1,1 @@
+-- This crate's proofs need no laws of their own.

@@ -1,0 +1,115 @@
+-- A list filled from the front, and numbers of any width as bytes. Assumes nothing.
+use mathlib.Core.Path.{_≡_, refl, sym, ap, _∙_}
+use mathlib.Core.List.{List, [], _∷_, _++_, append-assoc, append-nil}
+use Prim.Native.Nat.{ℕ, zero, suc, _+_, _*_, _/_, _<_, _≤_}
+use native.Mathlib.Nat.{mul-suc, mul-zero}
+use native.Mathlib.Numerals.{add-one}
+use native.Mathlib.Omega.{arith}
+use lib.ListN.{length, getD, take, drop, length-append}
+use lib.Seq.{sets, sets-eq, length-sets, take-suc, drop-cons, drop-drop, drop-append-add, take-at, length-take-le}
+use Rattle.followup.specs.Bytes.{number, numbersFrom, bytesOf, allBytes}
+
+-- ---- a list filled from the front
+
+-- What was put at the front, and the rest as before.
+pub record Filled (front before after : List ℕ) : Type 0 where
+  pub size : length after ≡ length before
+  pub same : after ≡ front ++ drop (length front) before
+
+pub filled-none : (before : List ℕ) → Filled [] before before
+filled-none before = record { size = refl; same = refl }
+
+-- More stored right after the front.
+pub filled-more :
+    {front before after : List ℕ} (more : List ℕ) (at : ℕ) → length front ≡ at → at + length more ≤ length before → Filled front before after
+    → Filled (front ++ more) before (sets after at more)
+filled-more {front} {before} {after} more at e room f =
+    let rest : drop (at + length more) after ≡ drop (length (front ++ more)) before =
+    ap (drop (at + length more)) (f .same) ∙ ap (λ k. drop (k + length more) (front ++ drop (length front) before)) (sym e)
+    ∙ drop-append-add front (drop (length front) before) (length more) ∙ drop-drop (length more) (length front) before
+    ∙ ap (λ k. drop k before) (sym (length-append front more)) in
+    let first : take at after ≡ front = ap (take at) (f .same) ∙ take-at front (drop (length front) before) at e in
+    record {
+      size = length-sets after at more ∙ f .size;
+      same =
+          sets-eq more after at (rw (f .size) room) ∙ ap (λ xs. xs ++ more ++ drop (at + length more) after) first
+          ∙ ap (λ xs. front ++ more ++ xs) rest;
+    }
+
+-- ---- numbers from bytes
+
+-- One byte more.
+pub number-more :
+    (w : ℕ) (bytes : List ℕ) (at next : ℕ) → next ≡ at + 1 → at < length bytes
+    → number (take (suc w) (drop at bytes)) ≡ getD bytes at 0 + 256 * number (take w (drop next bytes))
+number-more w bytes at next e h =
+    ap (λ l. number (take (suc w) l)) (drop-cons bytes at 0 h)
+    ∙ ap (λ k. getD bytes at 0 + 256 * number (take w (drop k bytes))) (sym (e ∙ add-one at))
+
+pub length-numbersFrom : (w n : ℕ) (bytes : List ℕ) → length (numbersFrom w n bytes) ≡ n
+length-numbersFrom w zero bytes = refl
+length-numbersFrom w (suc n) bytes = ap suc (length-numbersFrom w n (drop w bytes))
+
+-- One number more.
+pub numbersFrom-more : (w n : ℕ) (bytes : List ℕ) → numbersFrom w (suc n) bytes ≡ numbersFrom w n bytes ++ (number (take w (drop (w * n) bytes)) ∷ [])
+numbersFrom-more w zero bytes = ap (λ k. number (take w (drop k bytes)) ∷ []) (sym (mul-zero w))
+numbersFrom-more w (suc n) bytes =
+    let e : w + w * n ≡ w * suc n = omega (arith, mul-suc w n) in
+    ap (λ ns. number (take w bytes) ∷ ns)
+    (numbersFrom-more w n (drop w bytes)
+    ∙ ap (λ l. numbersFrom w n (drop w bytes) ++ (number (take w l) ∷ [])) (drop-drop (w * n) w bytes ∙ ap (λ k. drop k bytes) e))
+
+-- The first n numbers of the bytes stand at the front.
+abbrev pub Decoded : ℕ → List ℕ → List ℕ → List ℕ → ℕ → Type 0
+Decoded w bytes before after n = Filled (numbersFrom w n bytes) before after
+
+pub decoded-more :
+    (w : ℕ) (bytes before after : List ℕ) (n v : ℕ) → n < length before → v ≡ number (take w (drop (w * n) bytes)) → Decoded w bytes before after n
+    → Decoded w bytes before (sets after n (v ∷ [])) (n + 1)
+decoded-more w bytes before after n v room e d =
+    rw (add-one, numbersFrom-more w n bytes, ← e) (filled-more (v ∷ []) n (length-numbersFrom w n bytes) (omega arith) d)
+
+pub decoded-all : (w : ℕ) (bytes before after : List ℕ) (n : ℕ) → Decoded w bytes before after n → after ≡ numbersFrom w n bytes ++ drop n before
+decoded-all w bytes before after n d = d .same ∙ ap (λ k. numbersFrom w n bytes ++ drop k before) (length-numbersFrom w n bytes)
+
+-- The first n of a list that begins with the first n numbers of the bytes.
+pub numbers-taken : (w n : ℕ) (bytes after rest : List ℕ) → after ≡ numbersFrom w n bytes ++ rest → take n after ≡ numbersFrom w n bytes
+numbers-taken w n bytes after rest e = ap (take n) e ∙ take-at (numbersFrom w n bytes) rest n (length-numbersFrom w n bytes)
+
+-- ---- bytes from numbers
+
+pub length-bytesOf : (w n : ℕ) → length (bytesOf w n) ≡ w
+length-bytesOf zero n = refl
+length-bytesOf (suc w) n = ap suc (length-bytesOf w (n / 256))
+
+pub length-allBytes : (w : ℕ) (ns : List ℕ) → length (allBytes w ns) ≡ w * length ns
+length-allBytes w [] = sym (mul-zero w)
+length-allBytes w (n ∷ ns) =
+    length-append (bytesOf w n) (allBytes w ns) ∙ omega (arith, length-bytesOf w n, length-allBytes w ns, mul-suc w (length ns))
+
+pub allBytes-append : (w : ℕ) (ns ms : List ℕ) → allBytes w (ns ++ ms) ≡ allBytes w ns ++ allBytes w ms
+allBytes-append w [] ms = refl
+allBytes-append w (n ∷ ns) ms = ap (λ l. bytesOf w n ++ l) (allBytes-append w ns ms) ∙ sym (append-assoc (bytesOf w n) (allBytes w ns) (allBytes w ms))
+
+-- The bytes of the first n numbers stand at the front.
+abbrev pub Encoded : ℕ → List ℕ → List ℕ → List ℕ → ℕ → Type 0
+Encoded w numbers before after n = Filled (allBytes w (take n numbers)) before after
+
+length-encoded : (w n : ℕ) (numbers : List ℕ) → n ≤ length numbers → length (allBytes w (take n numbers)) ≡ w * n
+length-encoded w n numbers h = length-allBytes w (take n numbers) ∙ ap (λ k. w * k) (length-take-le n numbers h)
+
+pub encoded-more :
+    (w : ℕ) (numbers before after : List ℕ) (n : ℕ) → n < length numbers → w * (n + 1) ≤ length before → Encoded w numbers before after n
+    → Encoded w numbers before (sets after (w * n) (bytesOf w (getD numbers n 0))) (n + 1)
+encoded-more w numbers before after n h room d =
+    let v = getD numbers n 0 in
+    let fits : w * n + length (bytesOf w v) ≤ length before = omega (arith, length-bytesOf w (getD numbers n 0), add-one n, mul-suc w n) in
+    let one : allBytes w (take (n + 1) numbers) ≡ allBytes w (take n numbers) ++ bytesOf w v =
+    ap (λ k. allBytes w (take k numbers)) (add-one n) ∙ ap (allBytes w) (take-suc numbers n 0 h) ∙ allBytes-append w (take n numbers) (v ∷ [])
+    ∙ ap (λ l. allBytes w (take n numbers) ++ l) (append-nil (bytesOf w v)) in
+    rw one (filled-more (bytesOf w v) (w * n) (length-encoded w n numbers (omega arith)) fits d)
+
+pub encoded-all :
+    (w : ℕ) (numbers before after : List ℕ) (n : ℕ) → n ≤ length numbers → Encoded w numbers before after n
+    → after ≡ allBytes w (take n numbers) ++ drop (w * n) before
+encoded-all w numbers before after n h d = d .same ∙ ap (λ k. allBytes w (take n numbers) ++ drop k before) (length-encoded w n numbers h)

@@ -1,0 +1,189 @@
+-- Lent steps as bytes: what judging puts at their front, and the rest as it was. Assumes nothing.
+use mathlib.Core.Path.{_≡_, refl, sym, ap, ap₂, _∙_}
+use mathlib.Core.List.{List, [], _∷_, _++_, append-assoc}
+use Prim.Native.Nat.{ℕ, zero, suc, _+_, _-_, _*_, _/_, _%_, _≤_, _<_}
+use native.Mathlib.Omega.{arith}
+use borrow.Author.Tests.{lt-ltb}
+use lib.ListN.{length, getD, take, drop, length-append, length-drop, take-append-drop}
+use lib.Seq.{take-at, drop-drop, getD-drop}
+use Rattle.patterns.specs.Outcome.{Outcome, good, refused}
+use Rattle.sheet.specs.Line.{Line}
+use Rattle.sheet.specs.Write.{sheetHeld}
+use Rattle.chase.specs.Steps.{stepNumbers}
+use Rattle.chase.specs.Judge.{Verdict, Judgement, judged, refuses, Right, Refuses, short, wrong, many, JudgeMeets, shapeLimit}
+use Rattle.chase.proofs.StepLaws.{length-numbers}
+use Rattle.followup.specs.Bytes.{numbersFrom, numbersOf, allBytes}
+use Rattle.followup.specs.Reply.{JudgeReplies, Judges, JudgesNumbers, JudgesBytes, textRead, TextMeets, JudgesText}
+use Rattle.followup.specs.declared.JudgeReply.{JudgeReply}
+use Rattle.followup.proofs.ByteLaws.{length-numbersFrom, allBytes-append}
+use Rattle.followup.proofs.Truncated.{sheet-truncated}
+
+-- ---- numbers of two bytes
+
+abbrev pub Bytes : List ℕ → Type 0
+Bytes xs = (i : ℕ) → getD xs i 0 < 256
+
+-- The bytes of the numbers that bytes hold.
+bytes-back : (n : ℕ) (xs : List ℕ) → 2 * n ≤ length xs → Bytes xs → allBytes 2 (numbersFrom 2 n xs) ≡ take (2 * n) xs
+bytes-back zero xs h b = refl
+bytes-back (suc n) [] h b = absurd (omega arith)
+bytes-back (suc n) (x ∷ []) h b = absurd (omega arith)
+bytes-back (suc n) (x ∷ y ∷ zs) h b =
+    let v : ℕ = x + 256 * (y + 256 * 0) in
+    let low : v % 256 ≡ x = omega (arith, b 0, b 1) in
+    let rest : v / 256 ≡ y = omega (arith, b 0, b 1) in
+    let same : y % 256 ≡ y = omega (arith, b 1) in
+    let high : v / 256 % 256 ≡ y = ap (λ (n : ℕ). n % 256) rest ∙ same in
+    let more = bytes-back n zs (omega arith) (λ i. b (suc (suc i))) in
+    let size : suc (suc (2 * n)) ≡ 2 * suc n = omega arith in
+    ap₂ (λ (p q : ℕ). p ∷ q ∷ allBytes 2 (numbersFrom 2 n zs)) low high
+    ∙ ap (λ (r : List ℕ). x ∷ y ∷ r) more
+    ∙ ap (λ (k : ℕ). take k (x ∷ y ∷ zs)) size
+
+-- The numbers from place k on.
+pub drop-numbers : (k m : ℕ) (xs : List ℕ) → drop k (numbersFrom 2 (k + m) xs) ≡ numbersFrom 2 m (drop (2 * k) xs)
+drop-numbers zero m xs = ap (λ (n : ℕ). numbersFrom 2 n xs) (let e : 0 + m ≡ m = omega arith in e)
+drop-numbers (suc k) m xs =
+    let e : suc k + m ≡ suc (k + m) = omega arith in
+    let d : 2 + 2 * k ≡ 2 * suc k = omega arith in
+    ap (λ (n : ℕ). drop (suc k) (numbersFrom 2 n xs)) e
+    ∙ drop-numbers k m (drop 2 xs)
+    ∙ ap (numbersFrom 2 m) (drop-drop (2 * k) 2 xs ∙ ap (λ (n : ℕ). drop n xs) d)
+
+-- New numbers at the front of lent bytes.
+front : (new before : List ℕ) → length new ≤ length before / 2 → Bytes before
+    → allBytes 2 (new ++ drop (length new) (numbersOf 2 before)) ++ drop (2 * length (new ++ drop (length new) (numbersOf 2 before))) before
+    ≡ allBytes 2 new ++ drop (2 * length new) before
+front new before h b =
+    let k : ℕ = length new in
+    let m : ℕ = length before / 2 - k in
+    let ys : List ℕ = drop (2 * k) before in
+    let split : length before / 2 ≡ k + m = omega arith in
+    let later : drop k (numbersOf 2 before) ≡ numbersFrom 2 m ys = ap (λ (n : ℕ). drop k (numbersFrom 2 n before)) split ∙ drop-numbers k m before in
+    let size : length (new ++ numbersFrom 2 m ys) ≡ k + m = length-append new (numbersFrom 2 m ys) ∙ ap (λ (n : ℕ). k + n) (length-numbersFrom 2 m ys) in
+    let twice : 2 * (k + m) ≡ 2 * k + 2 * m = omega arith in
+    let long : 2 * m ≤ length ys = omega (arith, length-drop (2 * k) before) in
+    ap (λ (ns : List ℕ). allBytes 2 (new ++ ns) ++ drop (2 * length (new ++ ns)) before) later
+    ∙ ap₂ (λ (x y : List ℕ). x ++ y)
+    (allBytes-append 2 new (numbersFrom 2 m ys) ∙ ap (λ (r : List ℕ). allBytes 2 new ++ r) (bytes-back m ys long (λ i. rw getD-drop (b (2 * k + i)))))
+    (ap (λ (n : ℕ). drop (2 * n) before) size ∙ ap (λ (n : ℕ). drop n before) twice ∙ sym (drop-drop (2 * m) (2 * k) before))
+    ∙ append-assoc (allBytes 2 new) (take (2 * m) ys) (drop (2 * m) ys)
+    ∙ ap (λ (r : List ℕ). allBytes 2 new ++ r) (take-append-drop (2 * m) ys)
+
+-- ---- judging into lent bytes
+
+-- A refusal leaves the lent bytes as they were.
+pub unchanged : (Meets : Judgement → List ℕ → Type 0) (before : List ℕ) → Bytes before → (n k : ℕ) (r : JudgeReply) → Meets (refuses n k) (numbersOf 2 before)
+    → JudgeReplies (refuses n k) r → Judges Meets before r before
+unchanged Meets before b n k r why says =
+    record {
+      judgement = refuses n k;
+      steps = numbersOf 2 before;
+      meets = why;
+      replies = says;
+      bytes = sym (front [] before (omega arith) b);
+      kept = λ bad. refl;
+    }
+
+-- From what judging answers with steps of its own to what is answered with the lent steps.
+module _ (numbers before : List ℕ) (b : Bytes before) (room : 20480 ≤ length before / 2) where
+  lent : 20480 ≤ length (numbersOf 2 before)
+  lent = omega (arith, length-numbersFrom 2 (length before / 2) before)
+
+  pub judges : {own written after : List ℕ} (v : Verdict) (r : JudgeReply) → Right shapeLimit numbers own v written
+      → after ≡ allBytes 2 (take (5 * (v .trail + v .loop)) written) ++ drop (2 * (5 * (v .trail + v .loop))) before
+      → JudgeReplies (judged v) r → JudgesNumbers numbers before r after
+  judges {own} {written} {after} v r right is says =
+      let new : List ℕ = stepNumbers (right .steps) in
+      let size : length new ≡ 5 * length (right .steps) = length-numbers (right .steps) in
+      let count : 5 * (v .trail + v .loop) ≡ length new = omega (arith, right .count, size) in
+      let wrote : take (length new) written ≡ new = ap (take (length new)) (right .held) ∙ take-at new (drop (5 * length (right .steps)) own) (length new) refl in
+      record {
+        judgement = judged v;
+        steps = new ++ drop (length new) (numbersOf 2 before);
+        meets = (
+          lent,
+          record {
+            lines = right .lines;
+            sheet = right .sheet;
+            shapes = right .shapes;
+            within = right .within;
+            fired = right .fired;
+            share-is = right .share-is;
+            steps = right .steps;
+            count = right .count;
+            room = right .room;
+            held = ap (λ (n : ℕ). new ++ drop n (numbersOf 2 before)) size;
+            answer = right .answer;
+          },
+        );
+        replies = says;
+        bytes =
+            is
+            ∙ ap (λ (n : ℕ). allBytes 2 (take n written) ++ drop (2 * n) before) count
+            ∙ ap (λ (ns : List ℕ). allBytes 2 ns ++ drop (2 * length new) before) wrote
+            ∙ sym (front new before (omega (arith, right .room, right .count)) b);
+        kept = λ bad. absurd (bad (says .0));
+      }
+
+  refuses-lent : {own : List ℕ} (n k : ℕ) → 20480 ≤ length own → Refuses shapeLimit numbers own n k → Refuses shapeLimit numbers (numbersOf 2 before) n k
+  refuses-lent n k h (short few) = absurd (omega arith)
+  refuses-lent n k h (wrong line _ is) = wrong line lent is
+  refuses-lent n k h (many ls _ is more) = many ls lent is more
+
+  pub judges-none : {own : List ℕ} (n k : ℕ) (r : JudgeReply) → 20480 ≤ length own → Refuses shapeLimit numbers own n k
+      → JudgeReplies (refuses n k) r → JudgesNumbers numbers before r before
+  judges-none n k r h why says = unchanged (JudgeMeets shapeLimit numbers (numbersOf 2 before)) before b n k r (refuses-lent n k h why, refl) says
+
+-- Fewer than 4,096 steps.
+few-steps : (before : List ℕ) → length before / 2 < 20480 → length (numbersOf 2 before) < 20480
+few-steps before h = omega (arith, length-numbersFrom 2 (length before / 2) before)
+
+pub judges-short : (lines before : List ℕ) (r : JudgeReply) → Bytes before → length before / 2 < 20480 → JudgeReplies (refuses 12 0) r → JudgesBytes lines before r before
+judges-short lines before r b h says =
+    unchanged (JudgeMeets shapeLimit (numbersOf 4 lines) (numbersOf 2 before)) before b 12 0 r (short (few-steps before h), refl) says
+
+pub text-short : (text before : List ℕ) (r : JudgeReply) → Bytes before → length before / 2 < 20480 → JudgeReplies (refuses 12 0) r → JudgesText text before r before
+text-short text before r b h says = unchanged (TextMeets (textRead text) (numbersOf 2 before)) before b 12 0 r (go (textRead text)) says
+  where
+    go : (o : Outcome (List Line)) → TextMeets o (numbersOf 2 before) (refuses 12 0) (numbersOf 2 before)
+    go (good ls) = (short (few-steps before h), refl)
+    go (refused n k) = (rw (lt-ltb (length (numbersOf 2 before)) 20480 (few-steps before h)) refl, refl)
+
+-- ---- other lines
+
+-- What is right for some numbers is right for all that hold the same sheet.
+meets-same : (ms ns before now : List ℕ) (j : Judgement) → sheetHeld ns ≡ sheetHeld ms → JudgeMeets shapeLimit ms before j now → JudgeMeets shapeLimit ns before j now
+meets-same ms ns before now (judged v) e m =
+    let right = m .1 in (
+      m .0,
+      record {
+        lines = right .lines;
+        sheet = e ∙ right .sheet;
+        shapes = right .shapes;
+        within = right .within;
+        fired = right .fired;
+        share-is = right .share-is;
+        steps = right .steps;
+        count = right .count;
+        room = right .room;
+        held = right .held;
+        answer = right .answer;
+      },
+    )
+meets-same ms ns before now (refuses n k) e m = (go n k (m .0), m .1)
+  where
+    go : (n k : ℕ) → Refuses shapeLimit ms before n k → Refuses shapeLimit ns before n k
+    go n k (short few) = short few
+    go n k (wrong line lent is) = wrong line lent (e ∙ is)
+    go n k (many ls lent is more) = many ls lent (e ∙ is) more
+
+pub judges-as : {M N : Judgement → List ℕ → Type 0} {before after : List ℕ} {r : JudgeReply} → ((j : Judgement) (now : List ℕ) → M j now → N j now)
+    → Judges M before r after → Judges N before r after
+judges-as f m =
+    record { judgement = m .judgement; steps = m .steps; meets = f (m .judgement) (m .steps) (m .meets); replies = m .replies; bytes = m .bytes; kept = m .kept }
+
+-- The first 2,369 lines are judged as all are.
+pub judges-truncated : (first lines before : List ℕ) (r : JudgeReply) (after : List ℕ) → first ≡ take 18952 (numbersOf 4 lines) → JudgesNumbers first before r after → JudgesBytes lines before r after
+judges-truncated first lines before r after e m =
+    judges-as (λ j now. meets-same first (numbersOf 4 lines) (numbersOf 2 before) now j (sheet-truncated (numbersOf 4 lines) ∙ ap sheetHeld (sym e))) m

@@ -1,0 +1,19 @@
+-- What is known of a sheet once its shapes are found and the generations are raised. Assumes nothing.
+use mathlib.Core.Path.{_≡_}
+use mathlib.Core.List.{List}
+use Prim.Native.Nat.{ℕ}
+use Rattle.sheet.specs.Line.{Line}
+use Rattle.chase.specs.Lists.{All}
+use Rattle.chase.specs.Rules.{Rule, rulesOf}
+use Rattle.chase.specs.Run.{rowsOf}
+use Rattle.judging.specs.inner.Table.{RuleFits}
+use Rattle.judging.specs.inner.Found.{Kept, Whole, FiredMarks}
+use Rattle.judging.specs.inner.Links.{Spreads}
+
+pub record Facts (lines : List Line) (codes index parents makers headers fired : List ℕ) (count : ℕ) (generations from link : List (List ℕ)) (turning : ℕ)
+    : Type 0 where
+  pub fit : All RuleFits (rulesOf lines)
+  pub kept : Kept (rulesOf lines) (rowsOf lines) codes index parents makers headers count
+  pub whole : Whole (rulesOf lines) (rowsOf lines) codes count
+  pub marks : FiredMarks (rulesOf lines) codes fired count
+  pub spreads : Spreads (rulesOf lines) codes count generations from link turning

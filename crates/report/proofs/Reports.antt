@@ -1,0 +1,87 @@
+-- What stands at the front of the output is right to print. Assumes nothing.
+use mathlib.Core.Path.{_≡_, refl, sym, ap, _∙_}
+use mathlib.Core.List.{List, _++_}
+use Prim.Native.Nat.{ℕ, _+_, _*_, _/_, _≤_}
+use native.Mathlib.Nat.{zero-add}
+use native.Mathlib.Omega.{arith}
+use lib.ListN.{length, take, drop, length-append}
+use lib.Seq.{take-at}
+use Rattle.patterns.specs.Outcome.{Outcome, good, refused, mapGood, counted, held}
+use Rattle.sheet.specs.Line.{Line, lentOf}
+use Rattle.sheet.specs.Answer.{refusalNumber, refusalLine}
+use Rattle.sheet.specs.Read.{readOf, ReadMeets}
+use Rattle.sheet.specs.declared.Refusal.{Refusal}
+use Rattle.sheet.specs.declared.ReadAnswer.the-variants.{Lines, Refused}
+use Rattle.sheet.proofs.Sheets.{length-lentOf, refused≢good}
+use Rattle.sheet.proofs.Theorems.{read-exactly}
+use Rattle.chase.specs.Judge.{Judgement, JudgeMeets, stepLimit, shapeLimit}
+use Rattle.report.specs.Report.{judgementText, Judges, Prints, lineLimit, reportLimit, ReportMeets}
+use Rattle.report.specs.inner.Promises.{SheetLent, Filled}
+
+pub filled-by : {P Q : List ℕ → Type 0} (before : List ℕ) (size : ℕ) (after : List ℕ) → ((p : List ℕ) → P p → Q p) → Filled P before size after
+    → Filled Q before size after
+filled-by before size after f h = record { printed = h .printed; right = f (h .printed) (h .right); count = h .count; output = h .output }
+
+-- A judgement's text.
+pub judges : (numbers lent : List ℕ) (j : Judgement) (steps : List ℕ) → length lent ≡ 5 * stepLimit → JudgeMeets shapeLimit numbers lent j steps
+    → (p : List ℕ) → p ≡ judgementText j steps → Judges numbers p
+judges numbers lent j steps l m p e = record { lent = lent; lent-size = l; judgement = j; steps = steps; meets = m; text = e }
+
+-- ---- what was read
+
+module _ (text before after : List ℕ) (room : length before ≡ 13104) where
+  lent-room : length before / 8 ≡ lineLimit
+  lent-room = omega arith
+
+  pub record ReadGood (n : ℕ) : Type 0 where
+    pub lines : List Line
+    pub read : readOf text lineLimit ≡ good lines
+    pub held-is : take (8 * n) after ≡ lentOf lines
+
+  pub read-good : (n : ℕ) → ReadMeets text before (Lines n) after → ReadGood n
+  read-good n m = go (readOf text (length before / 8)) refl (m .says) (m .lines)
+    where
+      go : (o : Outcome (List Line)) → readOf text (length before / 8) ≡ o → good n ≡ counted o → after ≡ held (mapGood lentOf o) before → ReadGood n
+      go (refused number line) e s t = absurd (refused≢good (sym s))
+      go (good ls) e s t =
+          let c : n ≡ length ls = cc in
+          record {
+            lines = ls;
+            read = ap (readOf text) (sym lent-room) ∙ e;
+            held-is = ap (take (8 * n)) t ∙ take-at (lentOf ls) (drop (length (lentOf ls)) before) (8 * n) (omega (arith, length-lentOf ls));
+          }
+
+  pub read-sheet : (n : ℕ) → ReadMeets text before (Lines n) after → SheetLent (take (8 * n) after)
+  read-sheet n m =
+      let g = read-good n m in
+      let (size, fit, is, sheet) = read-exactly text lineLimit (g .lines) .0 (g .read) in
+      record { lines = g .lines; holds = g .held-is; sheet = sheet; few = fit }
+
+  pub read-prints : (n : ℕ) → ReadMeets text before (Lines n) after → (p : List ℕ) → Judges (take (8 * n) after) p → Prints text p
+  read-prints n m p j = let g = read-good n m in Prints.read (g .lines) (g .read) (rw (g .held-is) at j)
+
+  pub read-refused : (r : Refusal) → ReadMeets text before (Refused r) after → readOf text lineLimit ≡ refused (refusalNumber r) (refusalLine r)
+  read-refused r m = go (readOf text (length before / 8)) refl (m .says)
+    where
+      go : (o : Outcome (List Line)) → readOf text (length before / 8) ≡ o → refused (refusalNumber r) (refusalLine r) ≡ counted o
+          → readOf text lineLimit ≡ refused (refusalNumber r) (refusalLine r)
+      go (good ls) e s = absurd (refused≢good s)
+      go (refused number line) e s =
+          let a : refusalNumber r ≡ number = cc in
+          let b : refusalLine r ≡ line = cc in
+          ap (readOf text) (sym lent-room) ∙ e ∙ cc
+
+-- ---- the whole output
+
+pub reported : (text before : List ℕ) (n : ℕ) (after : List ℕ) → reportLimit ≤ length before → Filled (Prints text) before n after
+    → ReportMeets text before (good n) after
+reported text before n after room f = (
+  room,
+  (f .printed, f .right, f .count, f .output ∙ ap (λ (k : ℕ). f .printed ++ drop k before) (zero-add (length (f .printed)) ∙ sym (f .count))),
+)
+
+-- What is counted lies in the output.
+pub report-counts : (text before : List ℕ) (n : ℕ) (after : List ℕ) → ReportMeets text before (good n) after → n ≤ length after
+report-counts text before n after m =
+    let printed = m .1 .0 in
+    omega (arith, m .1 .2, ap length (m .1 .3), length-append printed (drop n before))

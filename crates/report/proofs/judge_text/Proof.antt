@@ -1,0 +1,25 @@
+-- `report::judge_text` meets its contract. Assumes nothing.
+use mathlib.Core.Path.{refl}
+use native.Mathlib.Omega.{arith}
+use borrow.Author.Needs.{needs}
+use denote.Ref.{now}
+use Rattle.report.proofs.Reports.{reported}
+use Rattle.report.proofs.judge_text.Statement.{statement}
+use Rattle.report.proofs.judge_text.Tie as tie
+
+returns : tie.Need-returns
+returns c = (omega (arith, c .if1 .taken), refl, refl, refl)
+
+report-requires : tie.Need-report-requires
+report-requires c κs = omega (arith, c .before .if1 .left)
+
+same-length : tie.Need-same-length
+same-length c = search needs
+
+returns-2 : tie.Need-returns-2
+returns-2 c =
+    let s = c .before .before .before .before .before .before .before in
+    reported (now (s .args .text)) (now (s .args .output)) (c .before .before .report .result) _ (omega (arith, c .before .before .before .before .if1 .left)) (c .before .before .report .ensures)
+
+pub judge-text-spec : {M : Type 1} → statement M
+judge-text-spec = tie.close (tie.spec returns report-requires same-length returns-2)

@@ -1,7 +1,0 @@
--- The laws that the proofs of this crate rest on.
-pub mod ByteLaws
-pub mod LineCounts
-pub mod PatternLaws
-pub mod ReadLaws
-pub mod Truncated
-pub mod StepBytes

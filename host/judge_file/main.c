@@ -1,0 +1,99 @@
+/* Judges a sheet and says in sentences what was found.
+ * Exit status: 0 the sheet settles, 1 it is endless, 2 it is refused or something can't be read. */
+#include "sheet.h"
+
+#include <errno.h>
+#include <string.h>
+
+static const char usage[] =
+    "usage: judge_file [--names NAMES] [--dot] FILE\n"
+    "Says whether the follow-ups of the sheet in FILE come to rest, with the trail and the loop. FILE - is standard input.\n"
+    "  --names NAMES  a file with a name for each kind, a line each, as in: 1 pallet\n"
+    "  --dot          the trail and the loop as a picture for graphviz instead: judge_file --dot FILE | dot -Tsvg\n"
+    "  -h, --help     this text\n"
+    "Exit status: 0 settles, 1 endless, 2 refused or unreadable.\n";
+
+static struct sheet sheet;
+
+struct options {
+    const char *file;
+    const char *names;
+    int dot;
+    int help;
+};
+
+/* Takes the arguments apart. Answers 0 where there is one that is not known, or no file. */
+static int take_options(struct options *options, int argc, char **argv)
+{
+    for (int i = 1; i < argc; i++) {
+        const char *word = argv[i];
+        if (strcmp(word, "-h") == 0 || strcmp(word, "--help") == 0)
+            options->help = 1;
+        else if (strcmp(word, "--dot") == 0)
+            options->dot = 1;
+        else if (strcmp(word, "--names") == 0 && i + 1 < argc)
+            options->names = argv[++i];
+        else if ((word[0] != '-' || word[1] == 0) && options->file == NULL)
+            options->file = word;
+        else
+            return 0;
+    }
+    return options->help || options->file != NULL;
+}
+
+/* Reads the sheet's text to its end. Answers 0 and says why where that fails. */
+static int read_text(const char *name)
+{
+    int standard = strcmp(name, "-") == 0;
+    FILE *in = standard ? stdin : fopen(name, "rb");
+    sheet.name = standard ? "standard input" : name;
+    if (in == NULL) {
+        fprintf(stderr, "judge_file: cannot open %s: %s\n", name, strerror(errno));
+        return 0;
+    }
+    errno = 0;
+    sheet.size = fread(sheet.text, 1, sizeof sheet.text, in);
+    int good = !ferror(in);
+    if (!good)
+        fprintf(stderr, "judge_file: cannot read %s: %s\n", sheet.name, strerror(errno));
+    if (!standard)
+        fclose(in);
+    return good;
+}
+
+static int judge_text(int dot)
+{
+    sheet.said = followup_judge_text(sheet.text, sheet.size, sheet.steps, sizeof sheet.steps);
+    if (sheet.said.refusal != FOLLOWUP_GOOD)
+        return say_refusal(&sheet);
+    sheet.line_count = followup_read(sheet.text, sheet.size, sheet.lines, sizeof sheet.lines).count;
+    if (!dot)
+        return say_verdict(&sheet);
+    draw_steps(&sheet);
+    return sheet.said.verdict == FOLLOWUP_ENDLESS ? 1 : 0;
+}
+
+int main(int argc, char **argv)
+{
+    struct options options = {NULL, NULL, 0, 0};
+    int status;
+    if (!take_options(&options, argc, argv)) {
+        fputs(usage, stderr);
+        return 2;
+    }
+    if (options.help) {
+        fputs(usage, stdout);
+        status = 0;
+    } else {
+        if (options.names != NULL && !read_names(&sheet, options.names))
+            return 2;
+        if (!read_text(options.file))
+            return 2;
+        status = judge_text(options.dot);
+    }
+    if (fflush(stdout) != 0 || ferror(stdout)) {
+        fprintf(stderr, "judge_file: cannot print: %s\n", strerror(errno));
+        return 2;
+    }
+    return status;
+}
