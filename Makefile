@@ -27,16 +27,13 @@ $(archive): prove
 $(tool): $(sources) host/judge_file/sheet.h $(header) $(archive)
 	$(CC) $(CFLAGS) -Ihost $(sources) $(archive) -o $@
 
-target/followup.pc: $(header) Makefile
-	printf '%s\n' 'prefix=$(PREFIX)' 'libdir=$${prefix}/lib' 'includedir=$${prefix}/include' '' \
-	    'Name: followup' 'Description: A proved judge of follow-up sheets' 'Version: $(version)' \
-	    'Cflags: -I$${includedir}' 'Libs: -L$${libdir} -lfollowup' >$@
-
-install: all target/followup.pc
+install: all
 	$(INSTALL) -d $(to)/include $(to)/lib/pkgconfig $(to)/bin
 	$(INSTALL) -m 644 $(header) $(to)/include/followup.h
 	$(INSTALL) -m 644 $(archive) $(to)/lib/libfollowup.a
-	$(INSTALL) -m 644 target/followup.pc $(to)/lib/pkgconfig/followup.pc
+	printf '%s\n' 'prefix=$(PREFIX)' 'libdir=$${prefix}/lib' 'includedir=$${prefix}/include' '' \
+	    'Name: followup' 'Description: A proved judge of follow-up sheets' 'Version: $(version)' \
+	    'Cflags: -I$${includedir}' 'Libs: -L$${libdir} -lfollowup' >$(to)/lib/pkgconfig/followup.pc
 	$(INSTALL) -m 755 $(tool) $(to)/bin/judge_file
 
 uninstall:

@@ -1,6 +1,9 @@
 // Judging a sheet: whether its follow-ups come to rest.
+mod answer;
 mod fresh;
+mod grid;
 mod kinds;
+mod notes;
 mod order;
 mod search;
 mod shape;
@@ -9,19 +12,14 @@ mod table;
 mod trail;
 
 ghost use mathlib.Core.Path.{_≡_};
-ghost use Prim.Native.Nat.{_+_, _*_, _≤_, _<_};
+ghost use Prim.Native.Nat.{_≤_};
 ghost use lib.ListN.{length};
-ghost use Rattle.chase.specs.Counting.{share as shareOf};
 ghost use Rattle.chase.specs.Judge.{JudgeMeets, shapeLimit};
 ghost use Rattle.judging.specs.Answer.{judgeSays, judgeRefusalNumber, judgeRefusalLine};
 ghost use Rattle.judging.specs.inner.Table.{SheetHeld, FirstWrong, rulesIn, tableRules, TableFits};
 ghost use Rattle.judging.specs.inner.Firing.{ByKind};
-ghost use Rattle.judging.specs.inner.Found.{onesIn};
 ghost use Rattle.judging.specs.inner.Noted.{Noted};
-ghost use Rattle.judging.specs.inner.Nodes.{Grid, Zeros};
-ghost use Rattle.judging.specs.inner.Written.{InTurn, InLine};
-ghost use Rattle.judging.specs.inner.Trails.{Lent, WroteEndless, WroteSettled};
-ghost use Rattle.judging.specs.inner.Judged.{SomeKnown, RightForKnown, SaysEndless, Lines, SaysSettled};
+ghost use Rattle.judging.specs.inner.Judged.{SomeKnown, RightForKnown};
 use sheet::Refusal;
 use sheet::WriteAnswer;
 
@@ -58,11 +56,35 @@ pub enum JudgeAnswer {
     Refused(JudgeRefusal),
 }
 
-// Row, trail and loop of an answer; the steps are written.
-struct Path {
-    pub row: usize,
-    pub trail: usize,
-    pub turns: usize,
+// Judges lent lines, eight numbers each. At least 4,096 steps, five numbers each, are lent for the trail and the loop. A good call changes the steps that it counts and nothing else; a refusal changes nothing.
+pub fn judge(lines: &[u32], steps: &mut [u16]) -> JudgeAnswer
+    ensures { λ r. ⌜ JudgeMeets shapeLimit (now (lines .entry)) (now (steps .entry)) (judgeSays r) (now (steps .exit)) ⌝ }
+{
+    if steps.len() < 20480 {
+        return JudgeAnswer::Refused(JudgeRefusal::StepsShort);
+    }
+    let wrong = first_wrong(lines);
+    if wrong != 0 {
+        return JudgeAnswer::Refused(JudgeRefusal::LineWrong(wrong));
+    }
+    judge_sheet(lines, steps)
+}
+
+// The number and the line of a refusal.
+pub fn refusal_numbers(refusal: JudgeRefusal) -> JudgeRefusalNumbers
+    ensures { λ r. ⌜ (r .number ≡ judgeRefusalNumber refusal) × (r .line ≡ judgeRefusalLine refusal) ⌝ }
+{
+    match refusal {
+        JudgeRefusal::StepsShort => JudgeRefusalNumbers {
+            number: 12,
+            line: 0,
+        },
+        JudgeRefusal::LineWrong(line) => JudgeRefusalNumbers { number: 8, line },
+        JudgeRefusal::ShapesOver => JudgeRefusalNumbers {
+            number: 11,
+            line: 0,
+        },
+    }
 }
 
 // The first wrong line; 0 where the lent lines are a sheet. Write tests them before it looks at the lent text.
@@ -79,244 +101,47 @@ fn first_wrong(lines: &[u32]) -> usize
     }
 }
 
-// How many rules are marked as fired.
-fn fired_count(fired: &[u8; 256], rules: usize) -> usize
-    requires { ⌜ (length (now fired) ≡ 256) × (rules ≤ 256) ⌝ }
-    ensures { λ r. ⌜ r ≡ onesIn rules (now (fired .entry)) ⌝ }
+// Judges lent lines that are a sheet.
+fn judge_sheet(lines: &[u32], steps: &mut [u16]) -> JudgeAnswer
+    requires { ⌜ SheetHeld (now lines) × (20480 ≤ length (now steps)) ⌝ }
+    ensures { λ r. ⌜ JudgeMeets shapeLimit (now (lines .entry)) (now (steps .entry)) (judgeSays r) (now (steps .exit)) ⌝ }
 {
-    let mut count: usize = 0;
-    let mut r: usize = 0;
-    while r < rules {
-        if fired[r] == 1 {
-            count += 1;
-        }
-        r += 1;
+    let mut table = table::no_rules();
+    let rules = table::rules_of(lines, &mut table);
+    if lines.len() > 2048 {
+        return judge_many_lines(lines, steps, &table, rules);
     }
-    count
+    judge_few_lines(lines, steps, &table, rules)
 }
 
-// 100 × part / whole to the nearest whole number, half upward; 0 where the whole is 0.
-fn share(part: usize, whole: usize) -> usize
-    requires { ⌜ (part ≤ 256) × (whole ≤ 256) ⌝ }
-    ensures { λ r. ⌜ r ≡ shareOf part whole ⌝ }
-{
-    if whole == 0 {
-        return 0;
-    }
-    (200 * part + whole) / (2 * whole)
-}
-
-// Writes the way to node y's shape and then the loop back to y.
-fn write_endless(
-    steps: &mut [u16],
-    parents: &[u16; 512],
-    makers: &[u16; 512],
-    headers: &[u16; 512],
-    from: &[[u16; 7]; 512],
-    link: &[[u16; 7]; 512],
-    count: usize,
-    y: usize,
-) -> Path
-    requires { ⌜ Lent (now steps) (now parents) (now makers) (now headers) (now from) (now link) count × (y < 7 * count) × InTurn (now from) (7 * count) y ⌝ }
-    ensures { λ r. ⌜ WroteEndless (now (parents .entry)) (now (makers .entry)) (now (headers .entry)) (now (from .entry)) (now (link .entry)) count y
-        (now (steps .entry)) (r .row) (r .trail) (r .turns) (now (steps .exit)) ⌝ }
-{
-    let turns = trail::turn_length(7 * count, from, y);
-    let way = trail::way_length(parents, count, y / 7);
-    let row = trail::put_way(steps, parents, makers, headers, count, y / 7, way);
-    trail::put_line(steps, way, turns, from, link, y);
-    Path {
-        row,
-        trail: way,
-        turns,
-    }
-}
-
-// Writes the way to the shape where the line to node x begins and then that line.
-fn write_settled(
-    steps: &mut [u16],
-    parents: &[u16; 512],
-    makers: &[u16; 512],
-    headers: &[u16; 512],
-    generations: &[[u16; 7]; 512],
-    from: &[[u16; 7]; 512],
-    link: &[[u16; 7]; 512],
-    count: usize,
-    x: usize,
-) -> Path
-    requires { ⌜ Lent (now steps) (now parents) (now makers) (now headers) (now from) (now link) count × Grid (now generations) × (x < 7 * count)
-        × InLine (now generations) (now from) (7 * count) x ⌝ }
-    ensures { λ r. ⌜ WroteSettled (now (parents .entry)) (now (makers .entry)) (now (headers .entry)) (now (generations .entry)) (now (from .entry)) (now (link .entry)) count x
-        (now (steps .entry)) (r .row) (r .trail) (now (steps .exit)) × (r .turns ≡ 0) ⌝ }
-{
-    let line = trail::line_length(7 * count, generations, from, x);
-    let start = trail::line_start(line, from, x);
-    let way = trail::way_length(parents, count, start / 7);
-    let row = trail::put_way(steps, parents, makers, headers, count, start / 7, way);
-    trail::put_line(steps, way, line, from, link, x);
-    Path {
-        row,
-        trail: way + line,
-        turns: 0,
-    }
-}
-
-// 512 times seven zeros.
-fn no_numbers() -> [[u16; 7]; 512]
-    ensures { λ r. ⌜ Zeros r ⌝ }
-{
-    [[0u16; 7]; 512]
-}
-
-// The answer for a sheet that is endless, by the loop at node y. The steps are written.
-fn endless_answer(
-    steps: &mut [u16],
-    parents: &[u16; 512],
-    makers: &[u16; 512],
-    headers: &[u16; 512],
-    from: &[[u16; 7]; 512],
-    link: &[[u16; 7]; 512],
-    count: usize,
-    y: usize,
-    fired: usize,
-    part: usize,
-) -> JudgeAnswer
-    requires { ⌜ Lent (now steps) (now parents) (now makers) (now headers) (now from) (now link) count × (y < 7 * count) × InTurn (now from) (7 * count) y ⌝ }
-    ensures { λ r. ⌜ SaysEndless (now (parents .entry)) (now (makers .entry)) (now (headers .entry)) (now (from .entry)) (now (link .entry)) count y fired part
-        (now (steps .entry)) r (now (steps .exit)) ⌝ }
-{
-    let path = write_endless(steps, parents, makers, headers, from, link, count, y);
-    JudgeAnswer::Endless(Figures {
-        deepest: 0,
-        shapes: count,
-        fired,
-        share: part,
-        row: path.row,
-        trail: path.trail,
-        turns: path.turns,
-    })
-}
-
-// The answer for a sheet that settles. Where the deepest generation is above 0, the steps that make a number of it are written.
-fn settled_answer(
-    steps: &mut [u16],
-    parents: &[u16; 512],
-    makers: &[u16; 512],
-    headers: &[u16; 512],
-    generations: &[[u16; 7]; 512],
-    from: &[[u16; 7]; 512],
-    link: &[[u16; 7]; 512],
-    count: usize,
-    fired: usize,
-    part: usize,
-) -> JudgeAnswer
-    requires { ⌜ Lent (now steps) (now parents) (now makers) (now headers) (now from) (now link) count × Grid (now generations)
-        × Lines (now generations) (now from) count ⌝ }
-    ensures { λ r. ⌜ SaysSettled (now (parents .entry)) (now (makers .entry)) (now (headers .entry)) (now (generations .entry)) (now (from .entry)) (now (link .entry)) count fired part
-        (now (steps .entry)) r (now (steps .exit)) ⌝ }
-{
-    let x = trail::deepest(7 * count, generations, link);
-    let deepest = spread::number(generations, x) as usize;
-    if deepest == 0 {
-        return JudgeAnswer::Settles(Figures {
-            deepest,
-            shapes: count,
-            fired,
-            share: part,
-            row: 0,
-            trail: 0,
-            turns: 0,
-        });
-    }
-    let path = write_settled(
-        steps,
-        parents,
-        makers,
-        headers,
-        generations,
-        from,
-        link,
-        count,
-        x,
-    );
-    JudgeAnswer::Settles(Figures {
-        deepest,
-        shapes: count,
-        fired,
-        share: part,
-        row: path.row,
-        trail: path.trail,
-        turns: path.turns,
-    })
-}
-
-// Judges a sheet by the shapes that were found, all of them.
-fn judge_found(
+// Judges a sheet of up to 256 lines, with room for 2,048 notes: to clear less for a small sheet.
+fn judge_few_lines(
+    lines: &[u32],
     steps: &mut [u16],
     table: &[u8; 16384],
     rules: usize,
-    kinds: &[u16; 321],
-    shapes: &[u32; 512],
-    index: &[u16; 17792],
-    parents: &[u16; 512],
-    makers: &[u16; 512],
-    headers: &[u16; 512],
-    marks: &[u8; 256],
-    firings: &[u16],
-    targets: &[u16],
-    starts: &[u32; 513],
-    count: usize,
 ) -> JudgeAnswer
-    requires { ⌜ SomeKnown (now table) rules (now shapes) (now index) (now parents) (now makers) (now headers) (now marks) count × (20480 ≤ length (now steps)) × ByKind (now table) rules (now kinds)
-        × Noted (now table) rules (now shapes) (now index) (now firings) (now targets) (now starts) count ⌝ }
-    ensures { λ r. ⌜ RightForKnown (now (table .entry)) rules (now (shapes .entry)) (now (index .entry)) (now (parents .entry)) (now (makers .entry)) (now (headers .entry))
-        (now (marks .entry)) count (now (steps .entry)) r (now (steps .exit)) ⌝ }
+    requires { ⌜ SheetHeld (now lines) × (20480 ≤ length (now steps)) × TableFits (now table) rules × (tableRules (now table) rules ≡ rulesIn (now lines)) ⌝ }
+    ensures { λ r. ⌜ JudgeMeets shapeLimit (now (lines .entry)) (now (steps .entry)) (judgeSays r) (now (steps .exit)) ⌝ }
 {
-    let fired = fired_count(marks, rules);
-    let part = share(fired, rules);
-    let mut generations = no_numbers();
-    let mut from = no_numbers();
-    let mut link = no_numbers();
-    let turning = spread::spread(
-        table,
-        rules,
-        kinds,
-        shapes,
-        index,
-        firings,
-        targets,
-        starts,
-        count,
-        &mut generations,
-        &mut from,
-        &mut link,
-    );
-    if turning != 0 {
-        return endless_answer(
-            steps,
-            parents,
-            makers,
-            headers,
-            &from,
-            &link,
-            count,
-            turning - 1,
-            fired,
-            part,
-        );
-    }
-    settled_answer(
-        steps,
-        parents,
-        makers,
-        headers,
-        &generations,
-        &from,
-        &link,
-        count,
-        fired,
-        part,
-    )
+    let mut firings = [0u16; 2048];
+    let mut targets = [0u16; 2048];
+    judge_rules(lines, steps, table, rules, &mut firings, &mut targets)
+}
+
+// Judges a sheet of any number of lines, with room for 8,192 notes.
+fn judge_many_lines(
+    lines: &[u32],
+    steps: &mut [u16],
+    table: &[u8; 16384],
+    rules: usize,
+) -> JudgeAnswer
+    requires { ⌜ SheetHeld (now lines) × (20480 ≤ length (now steps)) × TableFits (now table) rules × (tableRules (now table) rules ≡ rulesIn (now lines)) ⌝ }
+    ensures { λ r. ⌜ JudgeMeets shapeLimit (now (lines .entry)) (now (steps .entry)) (judgeSays r) (now (steps .exit)) ⌝ }
+{
+    let mut firings = [0u16; 8192];
+    let mut targets = [0u16; 8192];
+    judge_rules(lines, steps, table, rules, &mut firings, &mut targets)
 }
 
 // Judges a sheet by its rules, with room for notes of firings.
@@ -375,76 +200,71 @@ fn judge_rules(
     )
 }
 
-// Judges a sheet of up to 256 lines, with room for 2,048 notes: to clear less for a small sheet.
-fn judge_few_lines(
-    lines: &[u32],
+// Judges a sheet by the shapes that were found, all of them.
+fn judge_found(
     steps: &mut [u16],
     table: &[u8; 16384],
     rules: usize,
+    kinds: &[u16; 321],
+    shapes: &[u32; 512],
+    index: &[u16; 17792],
+    parents: &[u16; 512],
+    makers: &[u16; 512],
+    headers: &[u16; 512],
+    marks: &[u8; 256],
+    firings: &[u16],
+    targets: &[u16],
+    starts: &[u32; 513],
+    count: usize,
 ) -> JudgeAnswer
-    requires { ⌜ SheetHeld (now lines) × (20480 ≤ length (now steps)) × TableFits (now table) rules × (tableRules (now table) rules ≡ rulesIn (now lines)) ⌝ }
-    ensures { λ r. ⌜ JudgeMeets shapeLimit (now (lines .entry)) (now (steps .entry)) (judgeSays r) (now (steps .exit)) ⌝ }
+    requires { ⌜ SomeKnown (now table) rules (now shapes) (now index) (now parents) (now makers) (now headers) (now marks) count × (20480 ≤ length (now steps)) × ByKind (now table) rules (now kinds)
+        × Noted (now table) rules (now shapes) (now index) (now firings) (now targets) (now starts) count ⌝ }
+    ensures { λ r. ⌜ RightForKnown (now (table .entry)) rules (now (shapes .entry)) (now (index .entry)) (now (parents .entry)) (now (makers .entry)) (now (headers .entry))
+        (now (marks .entry)) count (now (steps .entry)) r (now (steps .exit)) ⌝ }
 {
-    let mut firings = [0u16; 2048];
-    let mut targets = [0u16; 2048];
-    judge_rules(lines, steps, table, rules, &mut firings, &mut targets)
-}
-
-// Judges a sheet of any number of lines, with room for 8,192 notes.
-fn judge_many_lines(
-    lines: &[u32],
-    steps: &mut [u16],
-    table: &[u8; 16384],
-    rules: usize,
-) -> JudgeAnswer
-    requires { ⌜ SheetHeld (now lines) × (20480 ≤ length (now steps)) × TableFits (now table) rules × (tableRules (now table) rules ≡ rulesIn (now lines)) ⌝ }
-    ensures { λ r. ⌜ JudgeMeets shapeLimit (now (lines .entry)) (now (steps .entry)) (judgeSays r) (now (steps .exit)) ⌝ }
-{
-    let mut firings = [0u16; 8192];
-    let mut targets = [0u16; 8192];
-    judge_rules(lines, steps, table, rules, &mut firings, &mut targets)
-}
-
-// Judges lent lines that are a sheet.
-fn judge_sheet(lines: &[u32], steps: &mut [u16]) -> JudgeAnswer
-    requires { ⌜ SheetHeld (now lines) × (20480 ≤ length (now steps)) ⌝ }
-    ensures { λ r. ⌜ JudgeMeets shapeLimit (now (lines .entry)) (now (steps .entry)) (judgeSays r) (now (steps .exit)) ⌝ }
-{
-    let mut table = table::no_rules();
-    let rules = table::rules_of(lines, &mut table);
-    if lines.len() > 2048 {
-        return judge_many_lines(lines, steps, &table, rules);
+    let fired = answer::fired_count(marks, rules);
+    let part = answer::share(fired, rules);
+    let mut generations = grid::no_numbers();
+    let mut from = grid::no_numbers();
+    let mut link = grid::no_numbers();
+    let turning = spread::spread(
+        table,
+        rules,
+        kinds,
+        shapes,
+        index,
+        firings,
+        targets,
+        starts,
+        count,
+        &mut generations,
+        &mut from,
+        &mut link,
+    );
+    if turning != 0 {
+        return answer::endless_answer(
+            steps,
+            parents,
+            makers,
+            headers,
+            &from,
+            &link,
+            count,
+            turning - 1,
+            fired,
+            part,
+        );
     }
-    judge_few_lines(lines, steps, &table, rules)
-}
-
-// Judges lent lines, eight numbers each. At least 4,096 steps, five numbers each, are lent for the trail and the loop. A good call changes the steps that it counts and nothing else; a refusal changes nothing.
-pub fn judge(lines: &[u32], steps: &mut [u16]) -> JudgeAnswer
-    ensures { λ r. ⌜ JudgeMeets shapeLimit (now (lines .entry)) (now (steps .entry)) (judgeSays r) (now (steps .exit)) ⌝ }
-{
-    if steps.len() < 20480 {
-        return JudgeAnswer::Refused(JudgeRefusal::StepsShort);
-    }
-    let wrong = first_wrong(lines);
-    if wrong != 0 {
-        return JudgeAnswer::Refused(JudgeRefusal::LineWrong(wrong));
-    }
-    judge_sheet(lines, steps)
-}
-
-// The number and the line of a refusal.
-pub fn refusal_numbers(refusal: JudgeRefusal) -> JudgeRefusalNumbers
-    ensures { λ r. ⌜ (r .number ≡ judgeRefusalNumber refusal) × (r .line ≡ judgeRefusalLine refusal) ⌝ }
-{
-    match refusal {
-        JudgeRefusal::StepsShort => JudgeRefusalNumbers {
-            number: 12,
-            line: 0,
-        },
-        JudgeRefusal::LineWrong(line) => JudgeRefusalNumbers { number: 8, line },
-        JudgeRefusal::ShapesOver => JudgeRefusalNumbers {
-            number: 11,
-            line: 0,
-        },
-    }
+    answer::settled_answer(
+        steps,
+        parents,
+        makers,
+        headers,
+        &generations,
+        &from,
+        &link,
+        count,
+        fired,
+        part,
+    )
 }

@@ -11,6 +11,7 @@ ghost use Rattle.judging.specs.inner.Firing.{ByKind};
 ghost use Rattle.judging.specs.inner.Found.{Searched};
 ghost use Rattle.judging.specs.inner.Noted.{WrittenAt, Noted};
 ghost use Rattle.judging.specs.inner.Rows.{Clear, rowNumbers, RowAt, RowsFound, RowsTried};
+use crate::notes::note;
 use crate::shape::made;
 use crate::shape::next_fire;
 use crate::shape::rule_byte;
@@ -148,17 +149,6 @@ fn find_rows(
     count
 }
 
-// Notes firing number k, where there is room: its rule and H line as 8 × rule + 2 × H line, and the place of the shape that it makes.
-pub(crate) fn note(firings: &mut [u16], targets: &mut [u16], k: usize, link: usize, place: u16)
-    requires { ⌜ (length (now targets) ≡ length (now firings)) × (link < 65536) × (1 ≤ place) ⌝ }
-    ensures { λ _. ⌜ WrittenAt (now (firings .entry)) (now (firings .exit)) k link × WrittenAt (now (targets .entry)) (now (targets .exit)) k (place - 1) ⌝ }
-{
-    if k < firings.len() {
-        firings[k] = link as u16;
-        targets[k] = place - 1;
-    }
-}
-
 // Finds the shapes that the rules reach from the rows, up to 512, in the order of discovery, and which rules fire. Notes the firings.
 pub(crate) fn search(
     lines: &[u32],
@@ -187,9 +177,7 @@ pub(crate) fn search(
         × (r .full ≡ false → Noted (now (table .entry)) rules (now (shapes .exit)) (now (index .exit)) (now (firings .exit)) (now (targets .exit)) (now (starts .exit)) (r .count)) ⌝ }
 {
     let mut fired = [0u8; 256];
-    // How many shapes the rows have.
-    let rows = find_rows(lines, shapes, index, parents, makers, headers);
-    let mut count = rows;
+    let mut count = find_rows(lines, shapes, index, parents, makers, headers);
     let mut full = false;
     if 512 < count {
         full = true;

@@ -15,35 +15,12 @@ ghost use Rattle.judging.specs.inner.Noted.{Noted, ShapeNotes, NoteFits,
 ghost use Rattle.judging.specs.inner.Order.{Ordered};
 ghost use Rattle.judging.specs.inner.Passes.{Live, Done, Swept, Rests, Just, Upto, FreshE, Best, LineBytes, HeadE, ShapeE, EachE, Onward, Inside, Walked, Last};
 use crate::fresh::first_waiting;
+use crate::grid::field;
+use crate::grid::number;
+use crate::grid::put_field;
+use crate::notes::note_shape;
 use crate::order::order_of;
-use crate::search::note;
-use crate::shape::made;
-use crate::shape::next_fire;
 use crate::shape::rule_byte;
-
-pub(crate) fn number(g: &[[u16; 7]; 512], v: usize) -> u16
-    requires { ⌜ Grid (now g) × (v < 3584) ⌝ }
-    ensures { λ r. ⌜ r ≡ at (now (g .entry)) v ⌝ }
-{
-    let s = v / 7;
-    let i = v % 7;
-    g[s][i]
-}
-
-// Field p of shape s.
-fn field(g: &[[u16; 7]; 512], s: usize, p: usize) -> u16
-    requires { ⌜ Grid (now g) × (s < 512) × (p < 7) ⌝ }
-    ensures { λ r. ⌜ r ≡ at (now (g .entry)) (7 * s + p) ⌝ }
-{
-    g[s][p]
-}
-
-fn put_field(g: &mut [[u16; 7]; 512], s: usize, p: usize, x: u16)
-    requires { ⌜ Grid (now g) × (s < 512) × (p < 7) ⌝ }
-    ensures { λ _. ⌜ now (g .exit) ≡ put (now (g .entry)) (7 * s + p) x ⌝ }
-{
-    g[s][p] = x;
-}
 
 // Follows one link, from field p of shape s to field j of shape t, where there are n nodes. `last` is 0 where nothing was raised, v + 1
 // where node v was raised last, v + 4097 where v was raised above n: then nothing more is done. `waiting` holds 1 for each shape whose
@@ -198,39 +175,6 @@ fn follow_head(
         j += 1;
     }
     last
-}
-
-// Notes the firings on a shape, the first at place 0. Answers how many there are.
-fn note_shape(
-    table: &[u8; 16384],
-    rules: usize,
-    kinds: &[u16; 321],
-    shape: usize,
-    index: &[u16; 17792],
-    firings: &mut [u16; 1024],
-    targets: &mut [u16; 1024],
-) -> usize
-    requires { ⌜ TableFits (now table) rules × (length (now index) ≡ 17792) × (shape < 17792) × ShapeFits (shapeAt shape) × Onward (now table) rules (now index) 3584 shape × ByKind (now table) rules (now kinds)
-        × (length (now firings) ≡ 1024) × (length (now targets) ≡ 1024) ⌝ }
-    ensures { λ k. ⌜ (length (now (firings .exit)) ≡ 1024) × (length (now (targets .exit)) ≡ 1024)
-        × (k ≤ 1024) × ShapeNotes (now (table .entry)) rules (now (index .entry)) (now (firings .exit)) (now (targets .exit)) shape 0 k ⌝ }
-{
-    let kind = shape / 278 + 1;
-    let digits = sheet::digits(shape % 278 + 1);
-    let mut k: usize = 0;
-    let mut r = next_fire(table, rules, kinds, kind, kind, digits);
-    while r < rules {
-        let heads = rule_byte(table, r, 28);
-        let mut h: usize = 0;
-        while h < heads {
-            let code = made(table, rules, r, h, digits);
-            note(firings, targets, k, 8 * r + 2 * h, index[code]);
-            k += 1;
-            h += 1;
-        }
-        r = next_fire(table, rules, kinds, 65 + r, kind, digits);
-    }
-    k
 }
 
 // Follows the links of the notes from `first` on and before `end`, those on shape `s`.

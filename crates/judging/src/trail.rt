@@ -4,7 +4,7 @@ ghost use Prim.Native.Nat.{_+_, _*_, _≤_, _<_};
 ghost use lib.ListN.{length, getD};
 ghost use Rattle.judging.specs.inner.Nodes.{at, back, Grid};
 ghost use Rattle.judging.specs.inner.Written.{putSteps, oneStep, lineTo, wayTo, wayBack, Falls, WayLength, Deepest, InTurn, TurnLength, InLine, LineLength, StaysBelow};
-use crate::spread::number;
+use crate::grid::number;
 
 pub(crate) fn wide(x: u16) -> usize
     ensures { λ r. ⌜ r ≡ x ⌝ }

@@ -23,32 +23,32 @@ looked-up : (t : List ℕ) (n : ℕ) {d : List ℕ} → d ≡ digitsIn t n → t
 looked-up t n e p = e ∙ ap (λ u. digitsIn u n) p ∙ table-rows n
 
 abbrev Inv-loop2 : tie.InvT-loop2
-Inv-loop2 lines table rules kinds shapes₀ index₀ parents₀ makers₀ headers₀ firings₀ targets₀ starts fired rows count₀ full₀ patterns k₀ s shape kind digits r heads h₀ shapes index parents makers headers firings targets count full k h =
+Inv-loop2 lines table rules kinds shapes₀ index₀ parents₀ makers₀ headers₀ firings₀ targets₀ starts fired count₀ full₀ patterns k₀ s shape kind digits r heads h₀ shapes index parents makers headers firings targets count full k h =
     (full ≡ false) × Heading (rulesIn lines) (rowsIn lines) table digits rules shape kind s r heads h shapes index parents makers headers fired count
     × Noting (length firings₀) table rules shapes index firings targets starts s k r h
 
 abbrev μ-loop2 : tie.MeasureT-loop2
-μ-loop2 lines table rules kinds shapes₀ index₀ parents₀ makers₀ headers₀ firings₀ targets₀ starts fired rows count₀ full₀ patterns k₀ s shape kind digits r heads h₀ shapes index parents makers headers firings targets count full k h =
+μ-loop2 lines table rules kinds shapes₀ index₀ parents₀ makers₀ headers₀ firings₀ targets₀ starts fired count₀ full₀ patterns k₀ s shape kind digits r heads h₀ shapes index parents makers headers firings targets count full k h =
     heads - h
 
 abbrev Inv-loop : tie.InvT-loop
-Inv-loop lines table rules kinds shapes₀ index₀ parents₀ makers₀ headers₀ firings₀ targets₀ starts fired₀ rows count₀ full₀ patterns k₀ s shape kind digits r₀ shapes index parents makers headers firings targets fired count full k r =
+Inv-loop lines table rules kinds shapes₀ index₀ parents₀ makers₀ headers₀ firings₀ targets₀ starts fired₀ count₀ full₀ patterns k₀ s shape kind digits r₀ shapes index parents makers headers firings targets fired count full k r =
     (full ≡ false) × (r < rules → FiresOn (ruleIn (rowBytes table r)) kind digits true)
     × Ruling (rulesIn lines) (rowsIn lines) table digits rules shape kind s r shapes index parents makers headers fired count
     × Noting (length firings₀) table rules shapes index firings targets starts s k r 0
 
 abbrev μ-loop : tie.MeasureT-loop
-μ-loop lines table rules kinds shapes₀ index₀ parents₀ makers₀ headers₀ firings₀ targets₀ starts fired₀ rows count₀ full₀ patterns k₀ s shape kind digits r₀ shapes index parents makers headers firings targets fired count full k r =
+μ-loop lines table rules kinds shapes₀ index₀ parents₀ makers₀ headers₀ firings₀ targets₀ starts fired₀ count₀ full₀ patterns k₀ s shape kind digits r₀ shapes index parents makers headers firings targets fired count full k r =
     rules - r
 
 abbrev Inv-search : tie.InvT-search
-Inv-search lines table rules kinds shapes₀ index₀ parents₀ makers₀ headers₀ firings₀ targets₀ starts₀ fired₀ rows count₀ full₀ patterns k₀ s₀ shapes index parents makers headers firings targets starts fired count full k s =
+Inv-search lines table rules kinds shapes₀ index₀ parents₀ makers₀ headers₀ firings₀ targets₀ starts₀ fired₀ count₀ full₀ patterns k₀ s₀ shapes index parents makers headers firings targets starts fired count full k s =
     (full ≡ false) × (s ≤ count) × Ruled (rulesIn lines) table rules
     × Doing (rulesIn lines) (rowsIn lines) shapes index parents makers headers fired count (turn s 0 0) (256 * s)
     × Noting (length firings₀) table rules shapes index firings targets starts s k 0 0
 
 abbrev μ-search : tie.MeasureT-search
-μ-search lines table rules kinds shapes₀ index₀ parents₀ makers₀ headers₀ firings₀ targets₀ starts₀ fired₀ rows count₀ full₀ patterns k₀ s₀ shapes index parents makers headers firings targets starts fired count full k s =
+μ-search lines table rules kinds shapes₀ index₀ parents₀ makers₀ headers₀ firings₀ targets₀ starts₀ fired₀ count₀ full₀ patterns k₀ s₀ shapes index parents makers headers firings targets starts fired count full k s =
     512 - s
 
 find-rows-requires :

@@ -1,9 +1,9 @@
--- `spread::put_field` meets its contract. Assumes nothing.
+-- `grid::put_field` meets its contract. Assumes nothing.
 use mathlib.Core.Path.{sym}
 use borrow.Author.Needs.{needs}
 use Rattle.judging.proofs.NodeLaws.{put-field}
-use Rattle.judging.proofs.spread.put_field.Statement.{statement}
-use Rattle.judging.proofs.spread.put_field.Tie as tie
+use Rattle.judging.proofs.grid.put_field.Statement.{statement}
+use Rattle.judging.proofs.grid.put_field.Tie as tie
 
 mul-g : tie.Need-mul-g
 mul-g c = search needs

@@ -1,8 +1,8 @@
--- `endless_answer` meets its contract: the figures are those of the path that is written. Assumes nothing.
+-- `answer::endless_answer` meets its contract: the figures are those of the path that is written. Assumes nothing.
 use mathlib.Core.Path.{refl}
 use borrow.Author.Needs.{needs}
-use Rattle.judging.proofs.endless_answer.Statement.{statement}
-use Rattle.judging.proofs.endless_answer.Tie as tie
+use Rattle.judging.proofs.answer.endless_answer.Statement.{statement}
+use Rattle.judging.proofs.answer.endless_answer.Tie as tie
 
 write-endless-requires : tie.Need-write-endless-requires
 write-endless-requires c κs = search needs

@@ -1,4 +1,4 @@
--- `fired_count` meets its contract: the count is that of the marks passed. Assumes nothing.
+-- `answer::fired_count` meets its contract: the count is that of the marks passed. Assumes nothing.
 use mathlib.Core.Path.{_≡_}
 use mathlib.Core.Logic.{⊎-elim}
 use Prim.Native.Nat.{_-_, _<_, _≤_}
@@ -7,8 +7,8 @@ use borrow.Author.Needs.{needs}
 use lib.ListN.{length}
 use Rattle.judging.specs.inner.Found.{onesIn}
 use Rattle.judging.proofs.TrailLaws.{ones-more, ones-same}
-use Rattle.judging.proofs.fired_count.Statement.{statement}
-use Rattle.judging.proofs.fired_count.Tie as tie
+use Rattle.judging.proofs.answer.fired_count.Statement.{statement}
+use Rattle.judging.proofs.answer.fired_count.Tie as tie
 
 abbrev Inv-loop : tie.InvT-loop
 Inv-loop fired rules count₀ r₀ count r = (r ≤ rules) × (count ≤ r) × (count ≡ onesIn r fired)

@@ -1,11 +1,11 @@
--- `write_endless` meets its contract: the way and the loop fit into 4,096 steps, and are put one after the other. Assumes nothing.
+-- `answer::write_endless` meets its contract: the way and the loop fit into 4,096 steps, and are put one after the other. Assumes nothing.
 use mathlib.Core.Path.{refl}
 use Prim.Native.Nat.{_/_}
 use native.Mathlib.Omega.{arith}
 use borrow.Author.Needs.{needs}
 use Rattle.judging.proofs.TrailLaws.{turn-stays, wrote-endless}
-use Rattle.judging.proofs.write_endless.Statement.{statement}
-use Rattle.judging.proofs.write_endless.Tie as tie
+use Rattle.judging.proofs.answer.write_endless.Statement.{statement}
+use Rattle.judging.proofs.answer.write_endless.Tie as tie
 
 mul-turn-length : tie.Need-mul-turn-length
 mul-turn-length c = search needs

@@ -1,9 +1,9 @@
--- `share` meets its contract, by the test of the whole. Assumes nothing.
+-- `answer::share` meets its contract, by the test of the whole. Assumes nothing.
 use borrow.Author.Tests.{eq-eqb, ne-eqb}
 use borrow.Author.Needs.{needs}
 use Rattle.chase.specs.Counting.{share as shareOf}
-use Rattle.judging.proofs.share.Statement.{statement}
-use Rattle.judging.proofs.share.Tie as tie
+use Rattle.judging.proofs.answer.share.Statement.{statement}
+use Rattle.judging.proofs.answer.share.Tie as tie
 
 returns : tie.Need-returns
 unfolding shareOf

@@ -1,8 +1,8 @@
--- `no_numbers` meets its contract. Assumes nothing.
+-- `grid::no_numbers` meets its contract. Assumes nothing.
 use mathlib.Core.Path.{refl}
 use Rattle.judging.proofs.Judged.{zeros-are}
-use Rattle.judging.proofs.no_numbers.Statement.{statement}
-use Rattle.judging.proofs.no_numbers.Tie as tie
+use Rattle.judging.proofs.grid.no_numbers.Statement.{statement}
+use Rattle.judging.proofs.grid.no_numbers.Tie as tie
 
 returns : tie.Need-returns
 returns c = zeros-are _ refl

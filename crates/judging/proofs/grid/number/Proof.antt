@@ -1,9 +1,9 @@
--- `spread::number` meets its contract. Assumes nothing.
+-- `grid::number` meets its contract. Assumes nothing.
 use mathlib.Core.Path.{refl}
 use borrow.Author.Needs.{needs}
 use Rattle.judging.specs.inner.Nodes.{at}
-use Rattle.judging.proofs.spread.number.Statement.{statement}
-use Rattle.judging.proofs.spread.number.Tie as tie
+use Rattle.judging.proofs.grid.number.Statement.{statement}
+use Rattle.judging.proofs.grid.number.Tie as tie
 
 mul-result : tie.Need-mul-result
 mul-result c = search needs

@@ -1,4 +1,4 @@
--- `spread::note_shape` meets its contract. Each loop keeps that the firings of the rules, or H lines, so far were noted; a rule that is come to fires. Assumes nothing.
+-- `notes::note_shape` meets its contract. Each loop keeps that the firings of the rules, or H lines, so far were noted; a rule that is come to fires. Assumes nothing.
 use mathlib.Core.Path.{_≡_, refl, sym, _∙_}
 use mathlib.Core.Bool.{true}
 use Prim.Native.Nat.{_+_, _-_, _<_, _≤_}
@@ -11,8 +11,8 @@ use Rattle.judging.specs.inner.Codes.{shapeAt, FiresOn}
 use Rattle.judging.proofs.KindLaws.{first-place, fired-place, fire-from}
 use Rattle.judging.proofs.SearchLaws.{Trying, trying, fires-yes}
 use Rattle.judging.proofs.NoteLaws.{Filling, filling-begun, filling-next, filling-rule, filling-all, filling-there, filling-note, heads-few}
-use Rattle.judging.proofs.spread.note_shape.Statement.{statement}
-use Rattle.judging.proofs.spread.note_shape.Tie as tie
+use Rattle.judging.proofs.notes.note_shape.Statement.{statement}
+use Rattle.judging.proofs.notes.note_shape.Tie as tie
 
 abbrev Inv-loop2 : tie.InvT-loop2
 Inv-loop2 table rules kinds shape index firings₀ targets₀ kind digits k₀ r heads h₀ firings targets k h =

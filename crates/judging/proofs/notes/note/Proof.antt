@@ -1,11 +1,11 @@
--- `search::note` meets its contract. Assumes nothing.
+-- `notes::note` meets its contract. Assumes nothing.
 use mathlib.Core.Path.{refl}
 use Prim.Native.Nat.{_-_}
 use native.Mathlib.Omega.{arith}
 use borrow.Author.Needs.{needs}
 use lib.ListN.{length-set}
-use Rattle.judging.proofs.search.note.Statement.{statement}
-use Rattle.judging.proofs.search.note.Tie as tie
+use Rattle.judging.proofs.notes.note.Statement.{statement}
+use Rattle.judging.proofs.notes.note.Tie as tie
 
 cast-firings : tie.Need-cast-firings
 cast-firings c = search needs

@@ -1,10 +1,10 @@
--- `settled_answer` meets its contract: the figures are those of the path that is written, if one is. Assumes nothing.
+-- `answer::settled_answer` meets its contract: the figures are those of the path that is written, if one is. Assumes nothing.
 use mathlib.Core.Path.{refl}
 use native.Mathlib.Omega.{arith}
 use borrow.Author.Needs.{needs}
 use Rattle.judging.proofs.Judged.{deepest-within}
-use Rattle.judging.proofs.settled_answer.Statement.{statement}
-use Rattle.judging.proofs.settled_answer.Tie as tie
+use Rattle.judging.proofs.answer.settled_answer.Statement.{statement}
+use Rattle.judging.proofs.answer.settled_answer.Tie as tie
 
 mul-deepest : tie.Need-mul-deepest
 mul-deepest c = search needs

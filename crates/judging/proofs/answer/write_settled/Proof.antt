@@ -1,11 +1,11 @@
--- `write_settled` meets its contract: the way and the line fit into 4,096 steps, and are put one after the other. Assumes nothing.
+-- `answer::write_settled` meets its contract: the way and the line fit into 4,096 steps, and are put one after the other. Assumes nothing.
 use mathlib.Core.Path.{refl}
 use Prim.Native.Nat.{_/_}
 use native.Mathlib.Omega.{arith}
 use borrow.Author.Needs.{needs}
 use Rattle.judging.proofs.TrailLaws.{line-nodes, line-stays, wrote-settled}
-use Rattle.judging.proofs.write_settled.Statement.{statement}
-use Rattle.judging.proofs.write_settled.Tie as tie
+use Rattle.judging.proofs.answer.write_settled.Statement.{statement}
+use Rattle.judging.proofs.answer.write_settled.Tie as tie
 
 mul-line-length : tie.Need-mul-line-length
 mul-line-length c = search needs

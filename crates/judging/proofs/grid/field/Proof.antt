@@ -1,9 +1,9 @@
--- `spread::field` meets its contract. Assumes nothing.
+-- `grid::field` meets its contract. Assumes nothing.
 use mathlib.Core.Path.{sym}
 use borrow.Author.Needs.{needs}
 use Rattle.judging.proofs.NodeLaws.{at-field}
-use Rattle.judging.proofs.spread.field.Statement.{statement}
-use Rattle.judging.proofs.spread.field.Tie as tie
+use Rattle.judging.proofs.grid.field.Statement.{statement}
+use Rattle.judging.proofs.grid.field.Tie as tie
 
 mul-result : tie.Need-mul-result
 mul-result c = search needs
