@@ -11,7 +11,7 @@ use Rattle.sheet.specs.Read.{Taken, takes, refuses, inFront, goOn, checked}
 use Rattle.sheet.specs.Write.{takenLent, partsOf, sheetHeld, written, writeOf, writeSays, WriteMeets}
 use Rattle.sheet.specs.declared.WriteAnswer.{WriteAnswer}
 use Rattle.sheet.proofs.Sheets.{parts-next, lent-shows}
-use Rattle.sheet.proofs.Writing.{Few, few-none, few-more, at-most-2368-lines}
+use Rattle.sheet.proofs.LineCount.{Few, few-none, few-more, at-most-2368-lines}
 use Rattle.followup.specs.Bytes.{number, numbersFrom, numbersOf}
 use Rattle.followup.specs.Reply.{Replies, WritesBytes}
 use Rattle.followup.specs.declared.Reply.{Reply}

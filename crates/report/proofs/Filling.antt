@@ -7,13 +7,11 @@ use native.Mathlib.Numerals.{add-one}
 use native.Mathlib.Omega.{arith}
 use lib.Dec.{ltb}
 use lib.ListN.{length, getD, take, drop, set, length-append, length-drop}
-use lib.Seq.{take-all, take-suc, length-take-le, paste, drop-drop, drop-cons}
-use Rattle.columns.specs.Column.{column}
-use Rattle.columns.proofs.ColumnLaws.{length-column}
+use lib.Seq.{take-length, length-take-le, drop-drop, drop-cons}
 use Rattle.patterns.specs.Outcome.{Outcome, good, refused, counted}
 use Rattle.sheet.specs.Line.{columns, inRange}
 use Rattle.sheet.proofs.Lines.{length-columns}
-use Rattle.sheet.proofs.Writing.{put-byte, put-column, put-more, length-put}
+use Rattle.sheet.proofs.PutLaws.{put-more, ended-put}
 use Rattle.report.specs.Lines.{lineText, put, putOf, putSays, heldAt, PutMeets}
 use Rattle.chase.specs.Judge.{Verdict, judged}
 use Rattle.report.specs.Report.{letterV, letterS, verdictNumbers, stepLines, judgementText}
@@ -26,51 +24,12 @@ pub length-lineText : (letter : ℕ) (ns : List ℕ) → length (lineText letter
 unfolding lineText
 length-lineText letter ns = omega (arith, length-append (columns ns) (10 ∷ []), length-columns ns)
 
-columns-append : (ms ns : List ℕ) → columns (ms ++ ns) ≡ columns ms ++ columns ns
-columns-append [] ns = refl
-columns-append (m ∷ ms) ns = ap (λ (r : List ℕ). column m ++ r) (columns-append ms ns) ∙ sym (append-assoc (column m) (columns ms) (columns ns))
-
-module _ (ns : List ℕ) where
-  first-columns : (c : ℕ) → c ≤ length ns → length (columns (take c ns)) ≡ 9 * c
-  first-columns c h = omega (arith, length-columns (take c ns), length-take-le c ns h)
-
-  module _ (t : List ℕ) (at : ℕ) (room : at + 9 * length ns + 2 ≤ length t) where
-    pub columns-long : (c : ℕ) → c ≤ length ns → length (put t (at + 1) (columns (take c ns))) ≡ length t
-    columns-long c h = length-put t (at + 1) (columns (take c ns)) (omega (arith, first-columns c h))
-
-    -- One column more.
-    pub column-put : (c : ℕ) → c < length ns
-        → paste (put t (at + 1) (columns (take c ns))) (at + 9 * c + 1) (column (getD ns c 0)) 9 ≡ put t (at + 1) (columns (take (c + 1) ns))
-    column-put c h =
-        let done : List ℕ = columns (take c ns) in
-        let new : List ℕ = column (getD ns c 0) in
-        let e : length done ≡ 9 * c = first-columns c (omega arith) in
-        let f : done ++ new ≡ columns (take (c + 1) ns) =
-        ap (λ (r : List ℕ). done ++ r) (sym (append-nil new))
-        ∙ sym (columns-append (take c ns) (getD ns c 0 ∷ []))
-        ∙ ap columns (sym (take-suc ns c 0 h))
-        ∙ ap (λ (k : ℕ). columns (take k ns)) (sym (add-one c)) in
-        let p : at + 9 * c + 1 ≡ at + 1 + length done = omega arith in
-        put-column (put t (at + 1) done) (at + 9 * c + 1) (getD ns c 0)
-        ∙ ap (λ (k : ℕ). put (put t (at + 1) done) k new) p
-        ∙ put-more t (at + 1) done new (omega (arith, length-column (getD ns c 0)))
-        ∙ ap (put t (at + 1)) f
-
-  -- The letter, all columns, byte 10.
-  pub line-put : (letter : ℕ) (t : List ℕ) (at : ℕ) → at + 9 * length ns + 2 ≤ length t
-      → set (put (set t at letter) (at + 1) (columns (take (length ns) ns))) (at + 9 * length ns + 1) 10 ≡ put t at (lineText letter ns)
-  unfolding lineText
-  line-put letter t at room =
-      let cs : List ℕ = columns ns in
-      let e : length cs ≡ 9 * length ns = length-columns ns in
-      let f : put (set t at letter) (at + 1) cs ≡ put t at (letter ∷ cs) =
-      ap (λ (r : List ℕ). put r (at + 1) cs) (put-byte t at letter (omega arith)) ∙ put-more t at (letter ∷ []) cs (omega arith) in
-      let p : at + 9 * length ns + 1 ≡ at + length (letter ∷ cs) = omega arith in
-      ap (λ (r : List ℕ). set (put (set t at letter) (at + 1) (columns r)) (at + 9 * length ns + 1) 10) (take-all (length ns) ns (omega arith))
-      ∙ ap (λ (r : List ℕ). set r (at + 9 * length ns + 1) 10) f
-      ∙ put-byte (put t at (letter ∷ cs)) (at + 9 * length ns + 1) 10 (omega (arith, length-put t at (letter ∷ cs) (omega arith)))
-      ∙ ap (λ (k : ℕ). put (put t at (letter ∷ cs)) k (10 ∷ [])) p
-      ∙ put-more t at (letter ∷ cs) (10 ∷ []) (omega arith)
+-- The letter, all columns, byte 10.
+pub line-put : (ns : List ℕ) (letter : ℕ) (t : List ℕ) (at : ℕ) → at + 9 * length ns + 2 ≤ length t
+    → set (put (set t at letter) (at + 1) (columns (take (length ns) ns))) (at + 9 * length ns + 1) 10 ≡ put t at (lineText letter ns)
+unfolding lineText
+line-put ns letter t at room =
+    ended-put ns t at letter (length ns) (omega arith) room ∙ ap (λ (r : List ℕ). put t at (letter ∷ (columns r ++ (10 ∷ [])))) (take-length ns)
 
 -- ---- what putting a line answers
 

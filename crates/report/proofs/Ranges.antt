@@ -1,23 +1,15 @@
 -- Numbers that have columns. Assumes nothing.
 use mathlib.Core.Path.{_≡_, refl, sym, ap, _∙_}
-use mathlib.Core.Bool.{true, false, and-eq-true-iff}
+use mathlib.Core.Bool.{true, false}
 use mathlib.Core.List.{List, [], _∷_}
-use Prim.Native.Nat.{ℕ, zero, suc, _+_, _≤_, _<_}
+use Prim.Native.Nat.{ℕ, _+_, _≤_, _<_}
 use native.Mathlib.Numerals.{add-one}
-use native.Mathlib.Omega.{arith}
-use borrow.Author.Tests.{le-leb, lt-leb, leb-true}
-use lib.Dec.{leb}
+use borrow.Author.Tests.{le-leb, lt-leb}
 use lib.ListN.{length, getD, drop, drop-of-length-le}
 use lib.Seq.{drop-cons}
 use Rattle.patterns.specs.Lists.{All}
 use Rattle.columns.specs.Column.{largestNumber}
 use Rattle.sheet.specs.Line.{inRange}
-
--- Each of them is in range.
-pub in-range-at : (ns : List ℕ) (i : ℕ) → inRange ns ≡ true → i < length ns → getD ns i 0 ≤ largestNumber
-in-range-at [] i r h = absurd (omega arith)
-in-range-at (n ∷ ns) zero r h = leb-true n largestNumber (and-eq-true-iff (leb n largestNumber) (inRange ns) .0 r .0)
-in-range-at (n ∷ ns) (suc i) r h = in-range-at ns i (and-eq-true-iff (leb n largestNumber) (inRange ns) .0 r .1) (omega arith)
 
 pub in-range-all : (ns : List ℕ) → All (λ (n : ℕ). n ≤ largestNumber) ns → inRange ns ≡ true
 in-range-all [] h = refl

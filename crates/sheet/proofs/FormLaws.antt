@@ -1,14 +1,15 @@
--- What a form says of a letter, of a column count and of a lent line. Assumes nothing.
+-- What a form says of a letter, of a column count, of a line in the form and of its lent numbers. Assumes nothing.
 use mathlib.Core.Path.{_≡_, refl, sym, subst, ap, _∙_}
-use mathlib.Core.Bool.{Bool, true, false, cond, false≢true}
+use mathlib.Core.Logic.{_⊎_, inl, inr, ⊎-elim}
+use mathlib.Core.Bool.{Bool, true, false, cond, false≢true, and-eq-true-iff}
 use mathlib.Core.List.{List, [], _∷_}
-use Prim.Native.Nat.{ℕ, zero, suc, _-_, _≤_}
+use Prim.Native.Nat.{ℕ, zero, suc, _-_, _≤_, _<_}
 use native.Mathlib.Omega.{arith}
 use borrow.Author.Tests.{eqb-true, leb-true}
 use lib.Dec.{eqb, leb}
 use lib.ListN.{length, getD, take, drop}
 use Rattle.patterns.specs.Outcome.{Outcome, good, refused, padded}
-use Rattle.sheet.specs.Line.{K, B, H, R, Line, formSays, known, withFields, formOf, formOfLine, lent}
+use Rattle.sheet.specs.Line.{K, B, H, R, Line, formSays, known, withFields, formOf, formOfLine, inRange, wellFormed, lent}
 use Rattle.sheet.specs.inner.Promises.{FieldsFit}
 use Rattle.sheet.specs.declared.Form.{Form}
 use Rattle.sheet.specs.declared.Form.the-variants.{Kind, Body, Head, Row, Unknown}
@@ -94,6 +95,15 @@ form-says letter c =
     chosen P (eqb letter R) _ Unknown (λ k. fields-say R letter c Row (eqb-true letter R k) (λ n f _. f))
     (λ _. unknown-says letter c))))
 
+-- A form of a line has two to seven columns.
+pub known-columns : (letter c : ℕ) → known (formOf letter c) ≡ true → (2 ≤ c) × (c ≤ 7)
+known-columns letter c k =
+    let s = form-says letter c k in
+    let count = s .columns in
+    let low = s .some in
+    let high = s .few in
+    (omega arith, omega arith)
+
 said-fit : (f : Form) (letter c : ℕ) → FormSays f letter c → FieldsFit f
 said-fit Kind letter c s = tt
 said-fit (Body n) letter c s = s refl .few
@@ -103,6 +113,54 @@ said-fit Unknown letter c s = tt
 
 pub fields-fit : (letter c : ℕ) → FieldsFit (formOf letter c)
 fields-fit letter c = said-fit (formOf letter c) letter c (form-says letter c)
+
+-- A line in the form.
+
+pub formed-known : (l : Line) → wellFormed l ≡ true → known (formOfLine l) ≡ true
+unfolding wellFormed
+formed-known l e = and-eq-true-iff (known (formOfLine l)) (inRange (l .kind ∷ l .numbers)) .0 e .0
+
+pub formed-range : (l : Line) → wellFormed l ≡ true → inRange (l .kind ∷ l .numbers) ≡ true
+unfolding wellFormed
+formed-range l e = and-eq-true-iff (known (formOfLine l)) (inRange (l .kind ∷ l .numbers)) .0 e .1
+
+-- What its form says of a line's letter and numbers.
+form-is-said : (l : Line) → wellFormed l ≡ true → Fielded (letterOf (formOfLine l)) (fieldsOf (formOfLine l)) (l .letter) (suc (length (l .numbers)))
+form-is-said l e = form-says (l .letter) (suc (length (l .numbers))) (formed-known l e)
+
+pub formed-few : (l : Line) → wellFormed l ≡ true → length (l .numbers) ≤ 6
+formed-few l e = let f = form-is-said l e .few in let c = form-is-said l e .columns in omega arith
+
+letter-is : (f : Form) (letter : ℕ) → known f ≡ true → letter ≡ letterOf f → (letter ≡ K) ⊎ ((letter ≡ B) ⊎ ((letter ≡ H) ⊎ (letter ≡ R)))
+letter-is Kind letter k e = inl e
+letter-is (Body n) letter k e = inr (inl e)
+letter-is (Head n) letter k e = inr (inr (inl e))
+letter-is (Row n) letter k e = inr (inr (inr e))
+letter-is Unknown letter k e = absurd (false≢true k)
+
+-- A line's letter is one of the four.
+pub letter-cases : (l : Line) → wellFormed l ≡ true → (l .letter ≡ K) ⊎ ((l .letter ≡ B) ⊎ ((l .letter ≡ H) ⊎ (l .letter ≡ R)))
+letter-cases l e = letter-is (formOfLine l) (l .letter) (formed-known l e) (form-is-said l e .letter)
+
+one-field : (f : Form) → letterOf f ≡ K → fieldsOf f ≡ 1
+one-field Kind e = refl
+one-field (Body n) e = absurd (omega arith)
+one-field (Head n) e = absurd (omega arith)
+one-field (Row n) e = absurd (omega arith)
+one-field Unknown e = absurd (omega arith)
+
+-- A K line has one number, its width.
+pub formed-K : (l : Line) → wellFormed l ≡ true → l .letter ≡ K → length (l .numbers) ≡ 1
+formed-K l e k =
+    let s = form-is-said l e in
+    let one = one-field (formOfLine l) (sym (s .letter) ∙ k) in
+    let c = s .columns in
+    omega arith
+
+pub letter-small : (l : Line) → wellFormed l ≡ true → l .letter < 256
+letter-small l formed =
+    ⊎-elim (λ e. omega arith) (⊎-elim (λ e. omega arith) (⊎-elim (λ e. omega arith) (λ e. omega arith)))
+    (letter-cases l formed)
 
 pub take-padded : (w : ℕ) (ns : List ℕ) → length ns ≤ w → take (length ns) (padded w ns) ≡ ns
 take-padded zero [] h = refl

@@ -1,22 +1,22 @@
--- The laws of forms and of reading a line: which column counts a form has, and what the columns that were read say of the line. Assumes nothing.
+-- The laws of reading a line: what the columns that were read say of it. Assumes nothing.
 use mathlib.Core.Path.{_≡_, refl, sym, ap, subst, _∙_}
-use mathlib.Core.Bool.{Bool, true, false, cond, and-false, false≢true}
+use mathlib.Core.Bool.{true, and-false, false≢true}
 use mathlib.Core.List.{List, [], _∷_, _++_}
 use mathlib.Core.Option.{Option, none, some}
 use Prim.Native.Nat.{ℕ, zero, suc, _+_, _-_, _*_, _≤_, _<_}
 use native.Mathlib.Numerals.{add-one}
 use native.Mathlib.Omega.{arith}
-use lib.Dec.{eqb, leb}
 use lib.ListN.{length, getD, take, drop, set, replicate, length-append}
 use lib.Seq.{drop-drop}
-use borrow.Author.Tests.{eqb-true, leb-true, eq-eqb, ne-eqb, le-leb, lt-leb}
+use borrow.Author.Tests.{eq-eqb, ne-eqb, le-leb, lt-leb}
 use Rattle.patterns.proofs.ListLaws.{length-padded}
 use Rattle.patterns.specs.Outcome.{padded}
 use Rattle.columns.specs.Column.{numberIn}
-use Rattle.sheet.specs.Line.{K, B, H, R, withFields, formOf, formSays, known, joined, numbersIn, lineWith, columnCount, lineIn, lent}
+use Rattle.sheet.specs.Line.{withFields, formOf, formSays, known, joined, numbersIn, lineWith, columnCount, lineIn, lent}
 use Rattle.sheet.specs.inner.Promises.{ParsedAs}
 use Rattle.sheet.specs.declared.Form.{Form}
-use Rattle.sheet.specs.declared.Form.the-variants.{Kind, Body, Head, Row, Unknown}
+use Rattle.sheet.specs.declared.Form.the-variants.{Unknown}
+use Rattle.sheet.proofs.FormLaws.{known-columns}
 
 -- Two to seven columns, and fewer, and more.
 pub withFields-inside : (c : ℕ) (form : ℕ → Form) → 2 ≤ c → c < 8 → form (c - 1) ≡ withFields c form
@@ -27,31 +27,6 @@ withFields-below c form h = simp (lt-leb 2 c h)
 
 pub withFields-above : (c : ℕ) (form : ℕ → Form) → 8 ≤ c → Unknown ≡ withFields c form
 withFields-above c form h = simp (le-leb 2 c (omega arith), lt-leb c 7 h)
-
-pub known-where : (t : Bool) (form : Form) → known (cond t form Unknown) ≡ true → (t ≡ true) × (known form ≡ true)
-known-where true form h = (refl, h)
-known-where false form h = (h, cc)
-
-known-either : (t : Bool) (yes-form no-form : Form) {P : Type 0} → (known yes-form ≡ true → P) → (known no-form ≡ true → P) → known (cond t yes-form no-form) ≡ true → P
-known-either true yes-form no-form yes-case no-case h = yes-case h
-known-either false yes-form no-form yes-case no-case h = no-case h
-
-known-withFields : (c : ℕ) (form : ℕ → Form) → known (withFields c form) ≡ true → (2 ≤ c) × (c ≤ 7)
-known-withFields c form k =
-    let low = known-where (leb 2 c) (cond (leb c 7) (form (c - 1)) Unknown) k in
-    let high = known-where (leb c 7) (form (c - 1)) (low .1) in
-    (leb-true 2 c (low .0), leb-true c 7 (high .0))
-
--- A form of a line has two to seven columns.
-pub known-columns : (letter c : ℕ) → known (formOf letter c) ≡ true → (2 ≤ c) × (c ≤ 7)
-unfolding formOf
-known-columns letter c h =
-    known-either (eqb letter K) _ _
-    (λ k. let two = eqb-true c 2 (known-where (eqb c 2) Kind k .0) in (omega arith, omega arith))
-    (known-either (eqb letter B) _ _ (known-withFields c Body)
-    (known-either (eqb letter H) _ _ (known-withFields c Head)
-    (λ k. known-withFields c Row (known-where (eqb letter R) (withFields c Row) k .1))))
-    h
 
 joined-none : (x : Option ℕ) → joined x none ≡ none
 joined-none none = refl

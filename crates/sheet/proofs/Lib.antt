@@ -1,14 +1,21 @@
 -- The laws that the proofs of this crate rest on, and the theorems for a reader: Theorems and Examples.
-pub mod Forms
 pub mod FormLaws
+pub mod Forms
 pub mod MarkLaws
-pub mod OrderLaws
 pub mod Lines
 pub mod Sheets
+pub mod WidthLaws
+pub mod OrderLaws
 pub mod Reading
-pub mod Writing
 pub mod Counts
-pub mod Refused
 pub mod Outcomes
+pub mod Refused
+pub mod RangeLaws
+pub mod LentLines
+pub mod LineCount
+pub mod PutLaws
+pub mod Measuring
+pub mod Filling
+pub mod Writing
 pub mod Theorems
 pub mod Examples

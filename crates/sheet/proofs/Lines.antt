@@ -10,11 +10,12 @@ use lib.Dec.{eqb, leb}
 use lib.ListN.{length, getD, take, drop, length-append, take-append-drop, drop-of-length-le}
 use lib.Seq.{take-at, drop-at, take-append-seam, drop-append-seam, getD-at, drop-cons, drop-drop}
 use Rattle.columns.specs.Column.{largestNumber, placeByte, places, column, numberIn}
-use Rattle.sheet.specs.Line.{Line, columns, render, textOf, formOf, known, inRange, formOfLine, wellFormed, joined, numbersIn, lineWith, columnCount, lineIn, lent}
+use Rattle.sheet.specs.Line.{Line, columns, render, textOf, formOf, known, inRange, wellFormed, joined, numbersIn, lineWith, columnCount, lineIn, lent}
 use Rattle.walker.specs.Walk.{linesOf, after, lineLength}
 use Rattle.walker.proofs.TextLines.{after-none, linesOf-split}
 use Rattle.patterns.proofs.ListLaws.{length-padded}
 use Rattle.columns.proofs.ColumnLaws.{length-column, numberIn-column, numberIn-is}
+use Rattle.sheet.proofs.FormLaws.{formed-known, formed-range}
 
 -- Tests.
 
@@ -132,17 +133,16 @@ bytes-split bytes c ns b s =
     ∙ ap₂ _∷_ (b .last) (drop-of-length-le bytes {i = suc (length bytes - 1)} (omega arith))))
 
 pub lineIn-render : (l : Line) → wellFormed l ≡ true → lineIn (render l) ≡ some l
-unfolding wellFormed render
+unfolding render
 lineIn-render l h =
-    let (form, range) = and-eq-true-iff (known (formOfLine l)) (inRange (l .kind ∷ l .numbers)) .0 h in
     let ns : List ℕ = l .kind ∷ l .numbers in
     lineIn-by (render l) (length ns)
     (record {
       size = length-render l ∙ omega arith;
       last = getD-at (l .letter ∷ columns ns) 10 [] 0 (length (render l) - 1) (omega (arith, length-render l, length-columns ns));
-      form = form;
+      form = formed-known l h;
     })
-    ∙ ap (lineWith (l .letter)) (numbersIn-columns ns (10 ∷ []) range)
+    ∙ ap (lineWith (l .letter)) (numbersIn-columns ns (10 ∷ []) (formed-range l h))
 
 pub lineIn-is : (bytes : List ℕ) (l : Line) → lineIn bytes ≡ some l → (bytes ≡ render l) × (wellFormed l ≡ true)
 unfolding wellFormed render
@@ -192,12 +192,11 @@ lineLength-ended (b ∷ s) rest p = ap₂ after (p .0) (lineLength-ended s rest 
 
 -- The walker finds exactly the rendered line.
 pub line-of-text : (l : Line) (rest : List ℕ) → wellFormed l ≡ true → lineLength (render l ++ rest) ≡ length (render l)
-unfolding wellFormed render
+unfolding render
 line-of-text l rest h =
     let ns : List ℕ = l .kind ∷ l .numbers in
-    let form = and-eq-true-iff (known (formOfLine l)) (inRange ns) .0 h .0 in
     ap (λ t. lineLength (l .letter ∷ t)) (append-assoc (columns ns) (10 ∷ []) rest)
-    ∙ lineLength-ended (l .letter ∷ columns ns) rest (known-letter (l .letter) (length ns) form, columns-no-ten ns)
+    ∙ lineLength-ended (l .letter ∷ columns ns) rest (known-letter (l .letter) (length ns) (formed-known l h), columns-no-ten ns)
     ∙ omega (arith, length-append (columns ns) (10 ∷ []))
 
 -- The lines of a text.

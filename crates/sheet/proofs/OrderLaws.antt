@@ -2,15 +2,15 @@
 use mathlib.Core.Path.{_≡_, refl, sym, subst, ap, _∙_}
 use mathlib.Core.Bool.{Bool, true, false, cond, _&&_, false≢true}
 use mathlib.Core.List.{List, [], _∷_}
-use Prim.Native.Nat.{ℕ, zero, suc, _+_, _≤_, _<_}
+use Prim.Native.Nat.{ℕ, zero, suc, _≤_, _<_}
 use native.Mathlib.Omega.{arith}
-use borrow.Author.Tests.{eqb-true, eqb-false, lt-ltb, le-ltb, leb-true}
-use lib.Dec.{eqb, leb, ltb}
+use borrow.Author.Tests.{lt-ltb, le-ltb}
+use lib.Dec.{eqb, ltb}
 use lib.ListN.{length, getD, take, drop, set, replicate, length-set}
-use lib.Seq.{getD-set-same, getD-set-other, getD-take, getD-drop}
+use lib.Seq.{getD-take, getD-drop}
 use Rattle.sheet.specs.Line.{K, B, H, R, Line, known}
 use Rattle.sheet.specs.Sheet.{inPlace, letterBefore, widthOf, kindRight, topMark, marksFrom, marksRight, linesWith, headsBefore, roomFor, refusal}
-use Rattle.sheet.specs.inner.Promises.{Widths, Keeps, NothingSeen, HasRoom, keptAfter, AdmittedAs, Admits, placedOf, declares, marksTop}
+use Rattle.sheet.specs.inner.Promises.{Keeps, NothingSeen, HasRoom, keptAfter, AdmittedAs, Admits, placedOf, declares, marksTop}
 use Rattle.sheet.specs.declared.Form.{Form}
 use Rattle.sheet.specs.declared.Form.the-variants.{Kind, Body, Head, Row}
 use Rattle.sheet.specs.declared.order.Seen.{Seen}
@@ -18,6 +18,7 @@ use Rattle.sheet.specs.declared.order.Admitted.{Admitted}
 use Rattle.sheet.specs.declared.order.Admitted.the-variants.{Yes, No}
 use Rattle.sheet.proofs.FormLaws.{letterOf, fieldsOf, shownFields, shownLine, Shown, line-shown}
 use Rattle.sheet.proofs.MarkLaws.{top-none, top-some}
+use Rattle.sheet.proofs.WidthLaws.{declares-low, widths-added}
 
 -- No width is declared.
 pub no-width : (n k : ℕ) → _≡_ {A = ℕ} (getD (replicate n 0) k 0) 0
@@ -258,39 +259,9 @@ module _ {seen : Seen} {widths numbers : List ℕ} {n : ℕ} (p : Placed seen wi
         },
       ))
 
--- A kind and a width that are right are small.
-pub declares-low : (last kind width : ℕ) → declares last kind width ≡ true → (kind < 65) × (width < 256)
-declares-low last kind width e = go (leb 1 kind) (leb kind 64) refl (ltb last kind) (leb 1 width) (leb width 6) refl e
-  where
-    go : (a b : Bool) → leb kind 64 ≡ b → (c d f : Bool) → leb width 6 ≡ f → (a && b && c && d && f) ≡ true → (kind < 65) × (width < 256)
-    go true true k true true true w e = let x : kind ≤ 64 = leb-true kind 64 k in let y : width ≤ 6 = leb-true width 6 w in (omega arith, omega arith)
-    go true true k true true false w e = absurd (false≢true e)
-    go true true k true false f w e = absurd (false≢true e)
-    go true true k false d f w e = absurd (false≢true e)
-    go true false k c d f w e = absurd (false≢true e)
-    go false b k c d f w e = absurd (false≢true e)
-
 -- A K line's one field.
 first-field : (numbers : List ℕ) → getD (take 1 (drop 2 numbers)) 0 0 ≡ getD numbers 2 0
 first-field numbers = getD-take 1 (drop 2 numbers) 0 0 (omega arith) ∙ getD-drop 2 numbers 0 0
-
--- The width of a K line's kind is put at the kind's place.
-widths-added : (before : List Line) (widths numbers : List ℕ) → Widths before widths → getD numbers 1 0 < 65
-    → Widths (shownLine Kind numbers ∷ before) (set widths (getD numbers 1 0) (getD numbers 2 0))
-widths-added before widths numbers table low =
-    record {
-      size = length-set widths (getD numbers 1 0) (getD numbers 2 0) ∙ table .size;
-      each = λ kind. go kind (eqb (getD numbers 1 0) kind) refl;
-    }
-  where
-    go : (kind : ℕ) (b : Bool) → eqb (getD numbers 1 0) kind ≡ b
-        → getD (set widths (getD numbers 1 0) (getD numbers 2 0)) kind 0 ≡ cond b (getD (take 1 (drop 2 numbers)) 0 0) (widthOf before kind)
-    go kind true h =
-        let in-range : getD numbers 1 0 < length widths = let n = table .size in omega arith in
-        rw (← eqb-true (getD numbers 1 0) kind h)
-        (getD-set-same widths (getD numbers 1 0) (getD numbers 2 0) 0 in-range ∙ sym (first-field numbers))
-    go kind false h =
-        getD-set-other widths (getD numbers 1 0) kind (getD numbers 2 0) 0 (λ z. eqb-false (getD numbers 1 0) kind h (sym z)) ∙ table .each kind
 
 -- A K line: out of its place, declaring wrongly, added.
 module _ {seen : Seen} {widths numbers : List ℕ} (size : length widths ≡ 65) where
@@ -322,6 +293,8 @@ module _ {seen : Seen} {widths numbers : List ℕ} (size : length widths ≡ 65)
             rules = keeps .rules;
             heads = refl;
             rows = keeps .rows;
-            table = widths-added before widths numbers (keeps .table) (declares-low (seen .kind) (getD numbers 1 0) (getD numbers 2 0) w .0);
+            table =
+                widths-added before widths (shownLine Kind numbers) (keeps .table) refl (declares-low (seen .kind) (getD numbers 1 0) (getD numbers 2 0) w .0)
+                (getD numbers 2 0) (sym (first-field numbers));
           },
         ))

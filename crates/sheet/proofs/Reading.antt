@@ -1,6 +1,6 @@
 -- Laws of reading: line by line its tests and its numbers, then what is answered. Assumes nothing.
 use mathlib.Core.Path.{_≡_, refl, sym, ap, _∙_, subst}
-use mathlib.Core.Bool.{false≢true, and-eq-true-iff}
+use mathlib.Core.Bool.{false≢true}
 use mathlib.Core.List.{List, [], _∷_, _++_, append-assoc, append-nil}
 use mathlib.Core.Option.{Option, none, some}
 use Prim.Native.Nat.{ℕ, zero, suc, _+_, _*_, _/_, _≤_, _<_, zero-le}
@@ -11,7 +11,7 @@ use lib.ListN.{length, getD, take, drop, replicate, length-append, length-take, 
 use lib.Seq.{paste, length-take-le, take-at, take-all, append-snoc, drop-append-add, drop-drop}
 use Rattle.patterns.specs.Outcome.{Outcome, good, refused, mapGood, counted}
 use Rattle.sheet.specs.Answer.{refusalSays}
-use Rattle.sheet.specs.Line.{B, Line, known, inRange, formOfLine, wellFormed, lineIn, lent, lentOf}
+use Rattle.sheet.specs.Line.{B, Line, known, formOfLine, lineIn, lent, lentOf}
 use Rattle.sheet.specs.Sheet.{letterBefore, refusal}
 use Rattle.walker.specs.Walk.{linesOf, lineLength, lineAt, after}
 use Rattle.sheet.specs.Read.{inFront, goOn, checked, tested, testedIn, takenText, sheetIn, readOf, withRoom, readSays, ReadMeets}
@@ -39,7 +39,7 @@ use Rattle.walker.proofs.Walking.{lineLength-le}
 use Rattle.walker.proofs.TextLines.{linesOf-split, linesOf-last}
 use Rattle.sheet.proofs.Lines.{lineIn-is, length-lent, lineIn-unended}
 use Rattle.sheet.proofs.Sheets.{refused≢good, length-lentOf, render-size}
-use Rattle.sheet.proofs.FormLaws.{fields-fit, formSays-one-to-one}
+use Rattle.sheet.proofs.FormLaws.{formed-known, fields-fit, formSays-one-to-one}
 use Rattle.sheet.proofs.OrderLaws.{no-width, keeps-none}
 
 -- The line at a place.
@@ -53,10 +53,7 @@ lineAt-within s at h = omega (arith, length-lineAt s at, lineLength-le (drop at 
 -- A line that is read.
 
 read-form : (bytes : List ℕ) (l : Line) → lineIn bytes ≡ some l → formOfLine l ≡ Unknown → ⊥
-unfolding wellFormed
-read-form bytes l e u =
-    let form = and-eq-true-iff (known (formOfLine l)) (inRange (l .kind ∷ l .numbers)) .0 (lineIn-is bytes l e .1) .0 in
-    false≢true (sym (ap known u) ∙ form)
+read-form bytes l e u = false≢true (sym (ap known u) ∙ formed-known l (lineIn-is bytes l e .1))
 
 -- What is parsed may be asked after.
 pub parsed-fit : (o : Option Line) (form : Form) (numbers : List ℕ) → ParsedAs o form numbers → FieldsFit form

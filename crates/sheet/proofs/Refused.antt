@@ -222,7 +222,7 @@ cond-refuses true l m n e = absurd (takes≢refuses e)
 cond-refuses false l m n e = cc
 
 -- A lent line is refused with 8 alone.
-lent-refuses : (before : List Line) (x : List ℕ) (n : ℕ) → takenLent before x ≡ refuses n → n ≡ 8
+pub lent-refuses : (before : List Line) (x : List ℕ) (n : ℕ) → takenLent before x ≡ refuses n → n ≡ 8
 unfolding takenLent
 lent-refuses before x n e = cond-refuses (lineHolds before x) (lineHeld before x) 8 n e
 

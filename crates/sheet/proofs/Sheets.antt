@@ -11,17 +11,15 @@ use lib.ListN.{length, take, drop, length-append, length-drop, take-append-drop}
 use lib.Seq.{take-at, drop-at}
 use Rattle.patterns.specs.Outcome.{Outcome, good, refused, padded}
 use Rattle.columns.specs.Column.{same}
-use Rattle.sheet.specs.Line.{K, B, Line, render, textOf, formOf, known, inRange, formOfLine, wellFormed, lineIn, lent, lentOf}
+use Rattle.sheet.specs.Line.{K, B, Line, render, textOf, wellFormed, lineIn, lent, lentOf}
 use Rattle.sheet.specs.Sheet.{letterBefore, widthOf, inPlace, kindRight, marksRight, roomFor, refusal, Continues, IsSheet}
 use Rattle.walker.specs.Walk.{linesOf}
 use Rattle.walker.specs.Handed.{together}
 use Rattle.walker.proofs.TextLines.{together-linesOf}
 use Rattle.sheet.specs.Read.{Taken, takes, refuses, inFront, goOn, checked, tested, testedIn, takenText, sheetIn}
 use Rattle.sheet.specs.Write.{usedNumbers, lineHeld, lineHolds, takenLent, partsOf, sheetHeld}
-use Rattle.sheet.specs.declared.Form.the-variants.{Kind}
 use Rattle.columns.proofs.ColumnLaws.{same-refl, same-true}
-use Rattle.sheet.proofs.Forms.{known-where, known-columns}
-use Rattle.sheet.proofs.FormLaws.{take-padded}
+use Rattle.sheet.proofs.FormLaws.{known-columns, formed-known, formed-few, formed-K, take-padded}
 use Rattle.sheet.proofs.Lines.{both, drop-twice, Formed, lineIn-render, lineIn-is, length-render, length-lent, linesOf-text}
 
 -- A good outcome is no refusal.
@@ -164,16 +162,10 @@ pub together-lent : (ls : List Line) → together (map lent ls) ≡ lentOf ls
 together-lent [] = refl
 together-lent (l ∷ ls) = ap (λ r. lent l ++ r) (together-lent ls)
 
--- A K line has two columns.
-known-K : (letter c : ℕ) → eqb letter K ≡ true → known (formOf letter c) ≡ true → c ≡ 2
-unfolding formOf
-known-K letter c k e = eqb-true c 2 (known-where (eqb c 2) Kind (rw k at e) .0)
-
 -- A line's text has 20 bytes or more.
 pub render-size : (l : Line) → wellFormed l ≡ true → 20 ≤ length (render l)
-unfolding wellFormed
 render-size l h =
-    let count = known-columns (l .letter) (suc (length (l .numbers))) (and-eq-true-iff (known (formOfLine l)) (inRange (l .kind ∷ l .numbers)) .0 h .0) in
+    let count = known-columns (l .letter) (suc (length (l .numbers))) (formed-known l h) in
     omega (arith, length-render l)
 
 -- A line that gets no refusal passes all four tests.
@@ -218,22 +210,19 @@ kindRight-width before l k e =
     eqb-true (length (l .numbers)) (widthOf before (l .kind))
     (and-eq-true-iff (ltb 0 (widthOf before (l .kind))) (eqb (length (l .numbers)) (widthOf before (l .kind))) .0 (rw k at e) .1)
 
-used-all : (before : List Line) (l : Line) → wellFormed l ≡ true → Passes before l → usedNumbers before (lent l) ≡ length (l .numbers)
-unfolding wellFormed lent
+pub used-all : (before : List Line) (l : Line) → wellFormed l ≡ true → Passes before l → usedNumbers before (lent l) ≡ length (l .numbers)
+unfolding lent
 used-all before l form p = go (eqb (l .letter) K) refl
   where
     go : (t : Bool) → eqb (l .letter) K ≡ t → cond t 1 (widthOf before (l .kind)) ≡ length (l .numbers)
-    go true k =
-        let two = known-K (l .letter) (suc (length (l .numbers))) k (and-eq-true-iff (known (formOfLine l)) (inRange (l .kind ∷ l .numbers)) .0 form .0) in
-        omega arith
+    go true k = sym (formed-K l form (eqb-true (l .letter) K k))
     go false k = sym (kindRight-width before l k (p .kind))
 
 held-lent : (before : List Line) (l : Line) → wellFormed l ≡ true → Passes before l → lineHeld before (lent l) ≡ l
-unfolding wellFormed lineHeld lent
+unfolding lineHeld lent
 held-lent before l form p =
-    let six = known-columns (l .letter) (suc (length (l .numbers))) (and-eq-true-iff (known (formOfLine l)) (inRange (l .kind ∷ l .numbers)) .0 form .0) in
     ap (λ ns. record { letter = l .letter; kind = l .kind; numbers = ns })
-    (ap (λ k. take k (padded 6 (l .numbers))) (used-all before l form p) ∙ take-padded 6 (l .numbers) (omega arith))
+    (ap (λ k. take k (padded 6 (l .numbers))) (used-all before l form p) ∙ take-padded 6 (l .numbers) (formed-few l form))
 
 cond-takes : (t : Bool) (l m : Line) (n : ℕ) → cond t (takes l) (refuses n) ≡ takes m → (t ≡ true) × (l ≡ m)
 cond-takes true l m n e = (refl, cc)

@@ -9,9 +9,10 @@ use lib.ListN.{length, getD, set, take, length-set}
 use lib.Seq.{paste, paste-zero}
 use Rattle.columns.specs.Column.{column}
 use Rattle.sheet.specs.Line.{columns}
+use Rattle.sheet.proofs.RangeLaws.{inRange-at}
+use Rattle.sheet.proofs.PutLaws.{columns-long, column-put}
 use Rattle.report.specs.Lines.{put}
-use Rattle.report.proofs.Ranges.{in-range-at}
-use Rattle.report.proofs.Filling.{columns-long, column-put, line-put}
+use Rattle.report.proofs.Filling.{line-put}
 use Rattle.report.proofs.fill_line.Statement.{statement}
 use Rattle.report.proofs.fill_line.Tie as tie
 
@@ -36,7 +37,7 @@ long l =
     let s = start l in
     let e = begun l in
     ap length (l .loop .inv .1)
-    ∙ columns-long (now (s .args .numbers)) (lettered l) (s .args .at) (omega (arith, s .pre .1)) (l .loop .c) (l .loop .inv .0)
+    ∙ columns-long (now (s .args .numbers)) (lettered l) (s .args .at) (l .loop .c) (l .loop .inv .0) (omega (arith, s .pre .1, l .loop .inv .0))
     ∙ e
 
 slice-write-text : tie.Need-slice-write-text Inv-loop μ-loop
@@ -65,7 +66,7 @@ put-column-requires c κs =
     let l = c .before .before .before in
     let e = long l in
     let s = start l in
-    (in-range-at (now (s .args .numbers)) (l .loop .c) (s .pre .0) (search needs), omega (arith, s .pre .1))
+    (inRange-at (now (s .args .numbers)) (l .loop .c) (s .pre .0) (search needs), omega (arith, s .pre .1))
 
 add-c : tie.Need-add-c Inv-loop μ-loop
 add-c c = search needs
@@ -81,7 +82,7 @@ loop-again c =
       omega arith,
       c .before .before .put-column .ensures
           ∙ ap (λ (t : List ℕ). paste t (s .args .at + 9 * l .loop .c + 1) (column (getD (now (s .args .numbers)) (l .loop .c) 0)) 9) (l .loop .inv .1)
-          ∙ column-put (now (s .args .numbers)) (lettered l) (s .args .at) (omega (arith, s .pre .1)) (l .loop .c) (search needs),
+          ∙ column-put (now (s .args .numbers)) (lettered l) (s .args .at) (l .loop .c) (search needs) (omega (arith, s .pre .1)),
     )
 
 mul-text : tie.Need-mul-text Inv-loop μ-loop

@@ -7,7 +7,7 @@ use borrow.Author.Needs.{needs}
 use denote.Ref.{now}
 use lib.ListN.{replicate, length}
 use Rattle.sheet.proofs.OrderLaws.{no-width}
-use Rattle.sheet.proofs.Writing.{Fills, Putting, fill-begun, fill-eight, fill-line, fill-long, fill-end}
+use Rattle.sheet.proofs.Filling.{Fills, Putting, fill-begun, fill-eight, fill-line, fill-long, fill-end}
 use Rattle.sheet.proofs.lent.fill_text.Statement.{statement}
 use Rattle.sheet.proofs.lent.fill_text.Tie as tie
 

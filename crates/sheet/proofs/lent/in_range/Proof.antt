@@ -8,7 +8,7 @@ use borrow.Kind.Array.{good-length, eInt}
 use mir.Syntax.{w32}
 use lib.ListN.{length, drop}
 use Rattle.sheet.specs.inner.Promises.{rangesRight}
-use Rattle.sheet.proofs.Writing.{rangesFrom, ranges-begun, too-large, not-unused, within, unused, ranges-done}
+use Rattle.sheet.proofs.RangeLaws.{rangesFrom, ranges-begun, too-large, not-unused, within, unused, ranges-done}
 use Rattle.sheet.proofs.lent.in_range.Statement.{statement}
 use Rattle.sheet.proofs.lent.in_range.Tie as tie
 

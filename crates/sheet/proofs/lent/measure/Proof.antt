@@ -16,7 +16,8 @@ use Rattle.sheet.specs.Write.{sheetHeld}
 use Rattle.sheet.specs.inner.Promises.{Widths, FieldsFit, sizeOf}
 use Rattle.sheet.proofs.FormLaws.{fields-fit, formSays-one-to-one}
 use Rattle.sheet.proofs.OrderLaws.{no-width, keeps-none}
-use Rattle.sheet.proofs.Writing.{Measures, LineAt, not-too-wide, ranges-hold, not-refused, taken, measure-begun, line-wrong, line-taken, rule-without-head, measured, incomplete, size-small}
+use Rattle.sheet.proofs.LentLines.{LineAt, not-too-wide, ranges-hold, not-refused, taken}
+use Rattle.sheet.proofs.Measuring.{Measures, measure-begun, line-wrong, line-taken, rule-without-head, measured, incomplete, size-small}
 use Rattle.sheet.proofs.lent.measure.Statement.{statement}
 use Rattle.sheet.proofs.lent.measure.Tie as tie
 

@@ -2,7 +2,7 @@
 use mathlib.Core.Path.{sym}
 use borrow.Author.Needs.{needs}
 use denote.Ref.{now}
-use Rattle.sheet.proofs.Writing.{eight-at}
+use Rattle.sheet.proofs.LentLines.{eight-at}
 use Rattle.sheet.proofs.lent.numbers_at.Statement.{statement}
 use Rattle.sheet.proofs.lent.numbers_at.Tie as tie
 

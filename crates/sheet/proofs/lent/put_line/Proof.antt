@@ -11,7 +11,8 @@ use lib.ListN.{length, getD, set, take, drop, length-set}
 use lib.Seq.{paste, paste-zero}
 use Rattle.columns.specs.Column.{column}
 use Rattle.sheet.specs.Line.{columns}
-use Rattle.sheet.proofs.Writing.{put, number-fits, columns-long, column-put, line-put}
+use Rattle.sheet.proofs.RangeLaws.{number-fits}
+use Rattle.sheet.proofs.PutLaws.{put, lent-columns-long, lent-column-put, line-put}
 use Rattle.sheet.proofs.lent.put_line.Statement.{statement}
 use Rattle.sheet.proofs.lent.put_line.Tie as tie
 
@@ -35,7 +36,7 @@ long l =
     let s = l .before .before in
     let e = begun l in
     ap length (l .loop .inv .1)
-    ∙ columns-long (s .args .t3) (eight l) (set (now (s .args .text)) (s .args .at) (getD (s .args .t3) 0 0)) (s .args .at) (s .args .fields) (s .pre .0) (omega arith)
+    ∙ lent-columns-long (s .args .t3) (eight l) (set (now (s .args .text)) (s .args .at) (getD (s .args .t3) 0 0)) (s .args .at) (s .args .fields) (s .pre .0) (omega arith)
     (l .loop .c) (l .loop .inv .0)
     ∙ e
 
@@ -93,7 +94,7 @@ loop-again c =
       omega arith,
       c .before .before .put-column .ensures
           ∙ ap (λ (t : List ℕ). paste t (s .args .at + 9 * l .loop .c + 1) (column (getD (s .args .t3) (l .loop .c + 1) 0)) 9) (l .loop .inv .1)
-          ∙ column-put (s .args .t3) (eight l) (set (now (s .args .text)) (s .args .at) (getD (s .args .t3) 0 0)) (s .args .at) (s .args .fields) (s .pre .0) (omega arith)
+          ∙ lent-column-put (s .args .t3) (eight l) (set (now (s .args .text)) (s .args .at) (getD (s .args .t3) 0 0)) (s .args .at) (s .args .fields) (s .pre .0) (omega arith)
           (l .loop .c) (c .before .before .before .before .loop-test .taken),
     )
 

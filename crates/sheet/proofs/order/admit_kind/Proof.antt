@@ -3,7 +3,8 @@ use mathlib.Core.Path.{sym, _∙_}
 use borrow.Author.Needs.{needs}
 use borrow.Author.Tests.{not-true, not-false}
 use lib.ListN.{getD}
-use Rattle.sheet.proofs.OrderLaws.{declares-low, kind-out, kind-wrong, kind-added}
+use Rattle.sheet.proofs.WidthLaws.{declares-low}
+use Rattle.sheet.proofs.OrderLaws.{kind-out, kind-wrong, kind-added}
 use Rattle.sheet.proofs.order.admit_kind.Statement.{statement}
 use Rattle.sheet.proofs.order.admit_kind.Tie as tie
 
