@@ -4,13 +4,13 @@ use mathlib.Core.Bool.{Bool, true, false, cond, _&&_, false≢true}
 use mathlib.Core.List.{List, [], _∷_}
 use Prim.Native.Nat.{ℕ, zero, suc, _≤_, _<_}
 use native.Mathlib.Omega.{arith}
-use borrow.Author.Tests.{lt-ltb, le-ltb}
-use lib.Dec.{eqb, ltb}
+use borrow.Author.Tests.{eqb-true, eqb-false, leb-true, leb-false, lt-ltb, le-ltb}
+use lib.Dec.{eqb, leb, ltb}
 use lib.ListN.{length, getD, take, drop, set, replicate, length-set}
 use lib.Seq.{getD-take, getD-drop}
 use Rattle.sheet.specs.Line.{K, B, H, R, Line, known}
-use Rattle.sheet.specs.Sheet.{inPlace, letterBefore, widthOf, kindRight, topMark, marksFrom, marksRight, linesWith, headsBefore, roomFor, refusal}
-use Rattle.sheet.specs.inner.Promises.{Keeps, NothingSeen, HasRoom, keptAfter, AdmittedAs, Admits, placedOf, declares, marksTop}
+use Rattle.sheet.specs.Sheet.{inPlace, letterBefore, widthOf, kindRight, topMark, marksFrom, marksRight, linesWith, roomFor, refusal}
+use Rattle.sheet.specs.inner.Promises.{Keeps, NothingSeen, HasRoom, keptAfter, AdmittedAs, Admits, answerFor, placedOf, declares, marksTop}
 use Rattle.sheet.specs.declared.Form.{Form}
 use Rattle.sheet.specs.declared.Form.the-variants.{Kind, Body, Head, Row}
 use Rattle.sheet.specs.declared.order.Seen.{Seen}
@@ -143,95 +143,77 @@ module _ (f : Form) (other : eqb (letterOf f) K ≡ false) (k : known f ≡ true
       (refusal-tested before (shownLine f numbers) other (p .found ∙ place-kept f before seen widths numbers keeps (shown .size)) (p .none))
       (right before keeps some))
 
--- A placed line whose marks go on from m: they are wrong, there is no room, it is added.
-module _ (f : Form) (other : eqb (letterOf f) K ≡ false) (k : known f ≡ true) {seen : Seen} {widths numbers : List ℕ} {mark : ℕ} (m : ℕ)
-    (p : Placed seen widths numbers (letterOf f) (fieldsOf f)) (e : mark ≡ marksTop m (shownFields f numbers))
-    (marks : (before : List Line) → Keeps before seen widths → marksRight before (shownLine f numbers) ≡ marksFrom m (shownFields f numbers)) where
-  marked-wrong : mark ≡ 0 → Admits seen widths f numbers (No 5) widths
-  marked-wrong z =
-      placed-admits f other k p (No 5) no-room
-      (λ before keeps some. (rw (marks before keeps ∙ top-none m (shownFields f numbers) some (sym e ∙ z)), omega arith, omega arith))
+-- A B or H line whose marks go on from m, where `count` lines of `most` are there: it is misplaced, its marks are wrong, there is no room, it is added.
+module _ (f : Form) (other : eqb (letterOf f) K ≡ false) (k : known f ≡ true) {seen : Seen} {widths numbers : List ℕ} (m count most : ℕ)
+    (marks : (before : List Line) → Keeps before seen widths → marksRight before (shownLine f numbers) ≡ marksFrom m (shownFields f numbers))
+    (has : count < most → HasRoom seen f) (room : (before : List Line) → Keeps before seen widths → roomFor before (shownLine f numbers) ≡ ltb count most)
+    (kept : (before : List Line) → Keeps before seen widths → (mark : ℕ) → mark ≡ topMark m (shownFields f numbers)
+    → Keeps (shownLine f numbers ∷ before) (keptAfter seen f (getD numbers 1 0) mark) widths)
+  where
+    marked-admits : {wrong mark : ℕ} {answer : Admitted} → length widths ≡ 65
+        → wrong ≡ placedOf (seen .letter) (letterOf f) (fieldsOf f) (getD widths (getD numbers 1 0) 0) → mark ≡ marksTop m (shownFields f numbers)
+        → answer ≡ answerFor wrong mark (leb most count) → Admits seen widths f numbers answer widths
+    marked-admits {wrong} {mark} size e top is = rw is (go (eqb wrong 0) refl (eqb mark 0) refl (leb most count) refl)
+      where
+        here : eqb wrong 0 ≡ true → Placed seen widths numbers (letterOf f) (fieldsOf f)
+        here p = record { size = size; wrong = wrong; found = e; none = eqb-true wrong 0 p }
 
-  module _ (d : mark ≡ 0 → ⊥) where
-    right : (marksFrom m (shownFields f numbers) ≡ true) × (marksTop m (shownFields f numbers) ≡ topMark m (shownFields f numbers))
-    right = top-some m (shownFields f numbers) (λ z. d (e ∙ z))
+        right : eqb mark 0 ≡ false → (marksFrom m (shownFields f numbers) ≡ true) × (marksTop m (shownFields f numbers) ≡ topMark m (shownFields f numbers))
+        right q = top-some m (shownFields f numbers) (λ z. eqb-false mark 0 q (top ∙ z))
 
-    marked-full : ((before : List Line) → Keeps before seen widths → roomFor before (shownLine f numbers) ≡ false)
-        → Admits seen widths f numbers (No 6) widths
-    marked-full full =
-        placed-admits f other k p (No 6) no-room (λ before keeps some. (rw (marks before keeps ∙ right .0, full before keeps), omega arith, omega arith))
+        go : (a : Bool) → eqb wrong 0 ≡ a → (b : Bool) → eqb mark 0 ≡ b → (c : Bool) → leb most count ≡ c
+            → Admits seen widths f numbers (cond a (cond b (No 5) (cond c (No 6) (Yes mark))) (No wrong)) widths
+        go false p b q c r = misplaced f other k size e (eqb-false wrong 0 p)
+        go true p true q c r =
+            placed-admits f other k (here p) (No 5) no-room
+            (λ before keeps some.
+            (rw (marks before keeps ∙ top-none m (shownFields f numbers) some (sym top ∙ eqb-true mark 0 q)), omega arith, omega arith))
+        go true p false q true r =
+            placed-admits f other k (here p) (No 6) no-room
+            (λ before keeps some.
+            (rw (marks before keeps ∙ right q .0, room before keeps ∙ le-ltb count most (leb-true most count r)), omega arith, omega arith))
+        go true p false q false r =
+            placed-admits f other k (here p) (Yes mark) (λ _ _. has (leb-false most count r))
+            (λ before keeps some.
+            (rw (marks before keeps ∙ right q .0, room before keeps ∙ lt-ltb count most (leb-false most count r)), kept before keeps mark (top ∙ right q .1)))
 
-    marked-added : HasRoom seen f → ((before : List Line) → Keeps before seen widths → roomFor before (shownLine f numbers) ≡ true)
-        → ((before : List Line) → Keeps before seen widths → mark ≡ topMark m (shownFields f numbers)
-        → Keeps (shownLine f numbers ∷ before) (keptAfter seen f (getD numbers 1 0) mark) widths)
-        → Admits seen widths f numbers (Yes mark) widths
-    marked-added has room kept =
-        placed-admits f other k p (Yes mark) (λ _ _. has)
-        (λ before keeps some. (rw (marks before keeps ∙ right .0, room before keeps), kept before keeps (e ∙ right .1)))
-
--- A placed B line.
-module _ {seen : Seen} {widths numbers : List ℕ} {n mark : ℕ} (p : Placed seen widths numbers B n) (e : mark ≡ marksTop 0 (take n (drop 2 numbers))) where
-  body-right : (before : List Line) → Keeps before seen widths → marksRight before (shownLine (Body n) numbers) ≡ marksFrom 0 (take n (drop 2 numbers))
-  unfolding marksRight
-  body-right before keeps = refl
-
-  pub body-marks : mark ≡ 0 → Admits seen widths (Body n) numbers (No 5) widths
-  body-marks = marked-wrong (Body n) refl refl 0 p e body-right
-
-  pub body-full : (mark ≡ 0 → ⊥) → 256 ≤ seen .rules → Admits seen widths (Body n) numbers (No 6) widths
-  unfolding roomFor
-  body-full d h =
-      marked-full (Body n) refl refl 0 p e body-right d
-      (λ before keeps. le-ltb (linesWith B before) 256 (let k = keeps .rules in omega arith))
-
-  pub body-added : (mark ≡ 0 → ⊥) → seen .rules < 256
-      → Admits seen widths (Body n) numbers (Yes mark) widths
-  unfolding roomFor
-  body-added d h =
-      marked-added (Body n) refl refl 0 p e body-right d h
-      (λ before keeps. lt-ltb (linesWith B before) 256 (let k = keeps .rules in omega arith))
-      (λ before keeps top.
+module _ (seen : Seen) {widths numbers : List ℕ} {n : ℕ} (wrong mark : ℕ) {answer : Admitted} (size : length widths ≡ 65) where
+  -- A B line.
+  pub body-admits : wrong ≡ placedOf (seen .letter) B n (getD widths (getD numbers 1 0) 0) → mark ≡ marksTop 0 (take n (drop 2 numbers))
+      → answer ≡ answerFor wrong mark (leb 256 (seen .rules)) → Admits seen widths (Body n) numbers answer widths
+  unfolding marksRight roomFor
+  body-admits e top is =
+      marked-admits (Body n) refl refl 0 (seen .rules) 256 (λ before keeps. refl) (λ h. h) (λ before keeps. ap (λ (c : ℕ). ltb c 256) (sym (keeps .rules)))
+      (λ before keeps m largest.
       record {
         letter = refl;
         kind = refl;
-        mark = top;
+        mark = largest;
         rules = let k = keeps .rules in omega arith;
         heads = refl;
         rows = keeps .rows;
-        table = record { size = p .size; each = keeps .table .each };
+        table = record { size = size; each = keeps .table .each };
       })
+      size e top is
 
--- A placed H line.
-module _ {seen : Seen} {widths numbers : List ℕ} {n mark : ℕ} (p : Placed seen widths numbers H n) (e : mark ≡ marksTop (seen .mark) (take n (drop 2 numbers))) where
-  head-right : (before : List Line) → Keeps before seen widths → marksRight before (shownLine (Head n) numbers) ≡ marksFrom (seen .mark) (take n (drop 2 numbers))
-  unfolding marksRight
-  head-right before keeps = ap (λ (m : ℕ). marksFrom m (take n (drop 2 numbers))) (sym (keeps .mark))
-
-  pub head-marks : mark ≡ 0 → Admits seen widths (Head n) numbers (No 5) widths
-  head-marks = marked-wrong (Head n) refl refl (seen .mark) p e head-right
-
-  pub head-full : (mark ≡ 0 → ⊥) → 4 ≤ seen .heads → Admits seen widths (Head n) numbers (No 6) widths
-  unfolding roomFor
-  head-full d h =
-      marked-full (Head n) refl refl (seen .mark) p e head-right d
-      (λ before keeps. le-ltb (headsBefore before) 4 (let k = keeps .heads in omega arith))
-
-  pub head-added : (mark ≡ 0 → ⊥) → seen .heads < 4
-      → Admits seen widths (Head n) numbers (Yes mark) widths
-  unfolding roomFor
-  head-added d h =
-      marked-added (Head n) refl refl (seen .mark) p e head-right d h
-      (λ before keeps. lt-ltb (headsBefore before) 4 (let k = keeps .heads in omega arith))
-      (λ before keeps top.
+  -- An H line.
+  pub head-admits : wrong ≡ placedOf (seen .letter) H n (getD widths (getD numbers 1 0) 0) → mark ≡ marksTop (seen .mark) (take n (drop 2 numbers))
+      → answer ≡ answerFor wrong mark (leb 4 (seen .heads)) → Admits seen widths (Head n) numbers answer widths
+  unfolding marksRight roomFor
+  head-admits e top is =
+      marked-admits (Head n) refl refl (seen .mark) (seen .heads) 4 (λ before keeps. ap (λ (m : ℕ). marksFrom m (take n (drop 2 numbers))) (sym (keeps .mark))) (λ h. h)
+      (λ before keeps. ap (λ (c : ℕ). ltb c 4) (sym (keeps .heads)))
+      (λ before keeps m largest.
       record {
         letter = refl;
         kind = refl;
-        mark = top ∙ ap (λ (m : ℕ). topMark m (take n (drop 2 numbers))) (keeps .mark);
+        mark = largest ∙ ap (λ (m : ℕ). topMark m (take n (drop 2 numbers))) (keeps .mark);
         rules = keeps .rules;
         heads = let k = keeps .heads in omega arith;
         rows = keeps .rows;
-        table = record { size = p .size; each = keeps .table .each };
+        table = record { size = size; each = keeps .table .each };
       })
+      size e top is
 
 -- A placed R line.
 module _ {seen : Seen} {widths numbers : List ℕ} {n : ℕ} (p : Placed seen widths numbers R n) where

@@ -5,7 +5,7 @@ ghost use Prim.Native.Nat.{_≤_};
 ghost use lib.Dec.{eqb, ltb};
 ghost use lib.ListN.{length, getD, take, drop};
 ghost use Rattle.sheet.specs.Sheet.{inPlace};
-ghost use Rattle.sheet.specs.inner.Promises.{NothingSeen, Admits, FieldsFit, HasRoom, keptAfter, marksTop, placedOf, declares};
+ghost use Rattle.sheet.specs.inner.Promises.{NothingSeen, Admits, FieldsFit, HasRoom, keptAfter, marksTop, answerFor, placedOf, declares};
 use crate::Form;
 use crate::line::wide;
 
@@ -161,50 +161,46 @@ fn admit_kind(seen: Seen, widths: &mut [u8; 65], numbers: &[u32; 8]) -> Admitted
     Admitted::Yes(0)
 }
 
+// What a B or H line is answered: `wrong` is its refusal for its place or its kind and 0 where it gets neither, `mark` the largest
+// mark of its rule and 0 where its marks are wrong, `full` whether there is no room for it.
+fn answer_for(wrong: u32, mark: u32, full: bool) -> Admitted
+    ensures { λ r. ⌜ r ≡ answerFor wrong mark full ⌝ }
+{
+    if wrong != 0 {
+        return Admitted::No(wrong);
+    }
+    if mark == 0 {
+        return Admitted::No(5);
+    }
+    if full {
+        return Admitted::No(6);
+    }
+    Admitted::Yes(mark)
+}
+
 fn admit_body(seen: Seen, widths: &[u8; 65], numbers: &[u32; 8], fields: usize) -> Admitted
     requires { ⌜ (length (now widths) ≡ 65) × (fields ≤ 6) × (length (now numbers) ≡ 8) ⌝ }
     ensures { λ r. ⌜ Admits seen (now (widths .entry)) (Form.Body fields) (now (numbers .entry)) r (now (widths .entry)) ⌝ }
 {
-    let kind = numbers[1];
-    let wrong = placed(seen.letter, widths, 66, kind, fields);
-    if wrong != 0 {
-        return Admitted::No(wrong);
-    }
+    let wrong = placed(seen.letter, widths, 66, numbers[1], fields);
     let mark = marks(numbers, fields, 0);
-    if mark == 0 {
-        return Admitted::No(5);
-    }
-    if seen.rules >= 256 {
-        return Admitted::No(6);
-    }
-    Admitted::Yes(mark)
+    answer_for(wrong, mark, seen.rules >= 256)
 }
 
 fn admit_head(seen: Seen, widths: &[u8; 65], numbers: &[u32; 8], fields: usize) -> Admitted
     requires { ⌜ (length (now widths) ≡ 65) × (fields ≤ 6) × (length (now numbers) ≡ 8) ⌝ }
     ensures { λ r. ⌜ Admits seen (now (widths .entry)) (Form.Head fields) (now (numbers .entry)) r (now (widths .entry)) ⌝ }
 {
-    let kind = numbers[1];
-    let wrong = placed(seen.letter, widths, 72, kind, fields);
-    if wrong != 0 {
-        return Admitted::No(wrong);
-    }
+    let wrong = placed(seen.letter, widths, 72, numbers[1], fields);
     let mark = marks(numbers, fields, seen.mark);
-    if mark == 0 {
-        return Admitted::No(5);
-    }
-    if seen.heads >= 4 {
-        return Admitted::No(6);
-    }
-    Admitted::Yes(mark)
+    answer_for(wrong, mark, seen.heads >= 4)
 }
 
 fn admit_row(seen: Seen, widths: &[u8; 65], numbers: &[u32; 8], fields: usize) -> Admitted
     requires { ⌜ (length (now widths) ≡ 65) × (length (now numbers) ≡ 8) ⌝ }
     ensures { λ r. ⌜ Admits seen (now (widths .entry)) (Form.Row fields) (now (numbers .entry)) r (now (widths .entry)) ⌝ }
 {
-    let kind = numbers[1];
-    let wrong = placed(seen.letter, widths, 82, kind, fields);
+    let wrong = placed(seen.letter, widths, 82, numbers[1], fields);
     if wrong != 0 {
         return Admitted::No(wrong);
     }

@@ -100,6 +100,10 @@ declares last kind width = leb 1 kind && leb kind 64 && ltb last kind && leb 1 w
 abbrev pub marksTop : ℕ → List ℕ → ℕ
 marksTop m ns = cond (marksFrom m ns) (topMark m ns) 0
 
+-- What a B or H line is answered: by its place and its kind, by the largest of its marks, by the room for it.
+abbrev pub answerFor : ℕ → ℕ → Bool → Admitted
+answerFor wrong mark full = cond (eqb wrong 0) (cond (eqb mark 0) (No 5) (cond full (No 6) (Yes mark))) (No wrong)
+
 abbrev pub measuredSays : Measured → Outcome ℕ
 measuredSays (Size n) = good n
 measuredSays (Wrong line) = refused 8 line

@@ -1,47 +1,27 @@
 -- `sheet::order::admit_body` meets its contract. Assumes nothing.
-use mathlib.Core.Path.{refl}
-use native.Mathlib.Omega.{arith}
 use borrow.Author.Needs.{needs}
-use Rattle.sheet.specs.declared.Form.the-variants.{Body}
-use Rattle.sheet.proofs.OrderLaws.{misplaced, body-marks, body-full, body-added}
+use Rattle.sheet.proofs.OrderLaws.{body-admits}
 use Rattle.sheet.proofs.order.admit_body.Statement.{statement}
 use Rattle.sheet.proofs.order.admit_body.Tie as tie
 
-element-copy-out-kind : tie.Need-element-copy-out-kind
-element-copy-out-kind c = search needs
+element-copy-out-placed : tie.Need-element-copy-out-placed
+element-copy-out-placed c = search needs
 
 placed-requires : tie.Need-placed-requires
 placed-requires c κs = search needs
 
-returns : tie.Need-returns
-returns c =
-    misplaced (Body (c .before .before .before .args .fields)) refl refl (c .before .before .before .pre .0) (c .before .placed .ensures) (c .if1 .taken)
-
 marks-requires : tie.Need-marks-requires
 marks-requires c κs = search needs
 
-returns-2 : tie.Need-returns-2
-returns-2 c = let p = c .before .before in
-    body-marks (record { size = p .before .before .before .pre .0; wrong = _; found = p .before .placed .ensures; none = p .if1 .left }) (c .before .marks .ensures) (c .if2 .taken)
+answer-for-requires : tie.Need-answer-for-requires
+answer-for-requires c κs = search needs
 
-returns-3 : tie.Need-returns-3
-returns-3 c = let p = c .before .before .before .before in
-    body-full (record { size = p .before .before .before .pre .0; wrong = _; found = p .before .placed .ensures; none = p .if1 .left })
-    (c .before .before .before .marks .ensures) (c .before .before .if2 .left) (let h = c .if3 .taken in omega arith)
-
-returns-4 : tie.Need-returns-4
-returns-4 c = let p = c .before .before .before .before in
-    body-added (record { size = p .before .before .before .pre .0; wrong = _; found = p .before .placed .ensures; none = p .if1 .left })
-    (c .before .before .before .marks .ensures) (c .before .before .if2 .left) (c .if3 .left)
+returns : tie.Need-returns
+returns c =
+    let m = c .before .before in
+    let p = m .before in
+    let s = p .before .before in
+    body-admits (s .args .seen) (p .placed .result) (m .marks .result) (s .pre .0) (p .placed .ensures) (m .marks .ensures) (c .answer-for .ensures)
 
 pub admit-body-spec : {M : Type 1} → statement M
-admit-body-spec =
-    tie.close
-    (tie.spec
-    element-copy-out-kind
-    placed-requires
-    returns
-    marks-requires
-    returns-2
-    returns-3
-    returns-4)
+admit-body-spec = tie.close (tie.spec element-copy-out-placed placed-requires marks-requires answer-for-requires returns)

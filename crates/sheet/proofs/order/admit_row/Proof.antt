@@ -7,8 +7,8 @@ use Rattle.sheet.proofs.OrderLaws.{misplaced, row-full, row-added}
 use Rattle.sheet.proofs.order.admit_row.Statement.{statement}
 use Rattle.sheet.proofs.order.admit_row.Tie as tie
 
-element-copy-out-kind : tie.Need-element-copy-out-kind
-element-copy-out-kind c = search needs
+element-copy-out-placed : tie.Need-element-copy-out-placed
+element-copy-out-placed c = search needs
 
 placed-requires : tie.Need-placed-requires
 placed-requires c κs = search needs
@@ -27,4 +27,4 @@ returns-3 c = let p = c .before .before in
 
 pub admit-row-spec : {M : Type 1} → statement M
 admit-row-spec =
-    tie.close (tie.spec element-copy-out-kind placed-requires returns returns-2 returns-3)
+    tie.close (tie.spec element-copy-out-placed placed-requires returns returns-2 returns-3)
