@@ -7,9 +7,11 @@ ghost use lib.ListN.{length, getD, set, take, drop};
 ghost use lib.Seq.{paste};
 ghost use Rattle.columns.specs.Column.{column as columnOf};
 ghost use Rattle.patterns.specs.Outcome.{mapGood};
-ghost use Rattle.sheet.specs.Line.{inRange};
+ghost use Rattle.sheet.specs.Line.{K, inRange};
 ghost use Rattle.sheet.specs.Write.{sheetHeld};
 ghost use Rattle.sheet.specs.inner.Promises.{measuredSays, sizeOf, usedOf, rangesRight, TextFits, TextFilled, LinePut};
+use crate::LETTER_B;
+use crate::LETTER_K;
 use crate::line::take_apart;
 use crate::order::Admitted;
 use crate::order::admit;
@@ -47,7 +49,7 @@ fn used(widths: &[u8; 65], numbers: [u32; 8]) -> usize
     requires { ⌜ length (now widths) ≡ 65 ⌝ }
     ensures { λ r. ⌜ r ≡ usedOf (now (widths .entry)) numbers ⌝ }
 {
-    if numbers[0] == 75 {
+    if numbers[0] == LETTER_K {
         return 1;
     }
     width_of(widths, numbers[1]) as usize
@@ -107,7 +109,7 @@ pub(crate) fn measure(lines: &[u32]) -> Measured
         size += 9 * fields + 11;
         n += 1;
     }
-    if seen.letter == 66 {
+    if seen.letter == LETTER_B {
         return Measured::Wrong(n + 1);
     }
     Measured::Size(size)
@@ -142,10 +144,10 @@ fn put_line(text: &mut [u8], at: usize, numbers: [u32; 8], fields: usize)
 
 // Keeps the width that a K line declares.
 fn declare(widths: &mut [u8; 65], numbers: [u32; 8])
-    requires { ⌜ (length (now widths) ≡ 65) × (getD numbers 0 0 ≡ 75 → (getD numbers 1 0 < 65) × (getD numbers 2 0 < 256)) ⌝ }
-    ensures { λ _. ⌜ now (widths .exit) ≡ cond (eqb (getD numbers 0 0) 75) (set (now (widths .entry)) (getD numbers 1 0) (getD numbers 2 0)) (now (widths .entry)) ⌝ }
+    requires { ⌜ (length (now widths) ≡ 65) × (getD numbers 0 0 ≡ K → (getD numbers 1 0 < 65) × (getD numbers 2 0 < 256)) ⌝ }
+    ensures { λ _. ⌜ now (widths .exit) ≡ cond (eqb (getD numbers 0 0) K) (set (now (widths .entry)) (getD numbers 1 0) (getD numbers 2 0)) (now (widths .entry)) ⌝ }
 {
-    if numbers[0] == 75 {
+    if numbers[0] == LETTER_K {
         let kind = numbers[1] as usize;
         widths[kind] = numbers[2] as u8;
     }

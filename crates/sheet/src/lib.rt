@@ -16,6 +16,18 @@ ghost use Rattle.sheet.specs.Read.{ReadMeets};
 ghost use Rattle.sheet.specs.Write.{WriteMeets};
 use lent::Measured;
 
+// The first number of a line that declares a kind.
+pub const LETTER_K: u32 = b'K' as u32;
+
+// The first number of a line that begins a rule.
+pub const LETTER_B: u32 = b'B' as u32;
+
+// The first number of a line for a record that the rule makes.
+pub const LETTER_H: u32 = b'H' as u32;
+
+// The first number of a row's line.
+pub const LETTER_R: u32 = b'R' as u32;
+
 // Why a call is refused. A refusal that names a line holds its number, counted from 1.
 pub enum Refusal {
     // The text is over 32,768 bytes.

@@ -4,6 +4,10 @@ ghost use lib.ListN.{length, replicate};
 ghost use Rattle.sheet.specs.Line.{formOf, formSays, lineIn};
 ghost use Rattle.sheet.specs.inner.Promises.{ParsedAs};
 use crate::Form;
+use crate::LETTER_B;
+use crate::LETTER_H;
+use crate::LETTER_K;
+use crate::LETTER_R;
 use columns::Number;
 use columns::number_at;
 
@@ -18,19 +22,19 @@ pub(crate) fn take_apart(letter: u32, columns: usize) -> Form
     ensures { λ r. ⌜ formSays r ≡ formSays (formOf letter columns) ⌝ }
 {
     match letter {
-        75 => match columns {
+        LETTER_K => match columns {
             2 => Form::Kind,
             _ => Form::Unknown,
         },
-        66 => match columns {
+        LETTER_B => match columns {
             2..=7 => Form::Body(columns - 1),
             _ => Form::Unknown,
         },
-        72 => match columns {
+        LETTER_H => match columns {
             2..=7 => Form::Head(columns - 1),
             _ => Form::Unknown,
         },
-        82 => match columns {
+        LETTER_R => match columns {
             2..=7 => Form::Row(columns - 1),
             _ => Form::Unknown,
         },

@@ -7,6 +7,10 @@ ghost use lib.ListN.{length, getD, take, drop};
 ghost use Rattle.sheet.specs.Sheet.{inPlace};
 ghost use Rattle.sheet.specs.inner.Promises.{NothingSeen, Admits, FieldsFit, HasRoom, keptAfter, marksTop, answerFor, placedOf, declares};
 use crate::Form;
+use crate::LETTER_B;
+use crate::LETTER_H;
+use crate::LETTER_K;
+use crate::LETTER_R;
 use crate::line::wide;
 
 // What is kept of the lines before. `mark` is the largest of the open rule's marks, `heads` the number of its H lines.
@@ -81,20 +85,20 @@ fn in_place(last: u32, letter: u32) -> bool
     ensures { λ r. ⌜ r ≡ inPlace last letter ⌝ }
 {
     match letter {
-        75 => match last {
-            0 | 75 => true,
+        LETTER_K => match last {
+            0 | LETTER_K => true,
             _ => false,
         },
-        66 => match last {
-            0 | 75 | 72 => true,
+        LETTER_B => match last {
+            0 | LETTER_K | LETTER_H => true,
             _ => false,
         },
-        72 => match last {
-            66 | 72 => true,
+        LETTER_H => match last {
+            LETTER_B | LETTER_H => true,
             _ => false,
         },
         _ => match last {
-            66 => false,
+            LETTER_B => false,
             _ => true,
         },
     }
@@ -151,7 +155,7 @@ fn admit_kind(seen: Seen, widths: &mut [u8; 65], numbers: &[u32; 8]) -> Admitted
 {
     let kind = numbers[1];
     let width = numbers[2];
-    if !in_place(seen.letter, 75) {
+    if !in_place(seen.letter, LETTER_K) {
         return Admitted::No(3);
     }
     if !declared(seen.kind, kind, width) {
@@ -182,7 +186,7 @@ fn admit_body(seen: Seen, widths: &[u8; 65], numbers: &[u32; 8], fields: usize) 
     requires { ⌜ (length (now widths) ≡ 65) × (fields ≤ 6) × (length (now numbers) ≡ 8) ⌝ }
     ensures { λ r. ⌜ Admits seen (now (widths .entry)) (Form.Body fields) (now (numbers .entry)) r (now (widths .entry)) ⌝ }
 {
-    let wrong = placed(seen.letter, widths, 66, numbers[1], fields);
+    let wrong = placed(seen.letter, widths, LETTER_B, numbers[1], fields);
     let mark = marks(numbers, fields, 0);
     answer_for(wrong, mark, seen.rules >= 256)
 }
@@ -191,7 +195,7 @@ fn admit_head(seen: Seen, widths: &[u8; 65], numbers: &[u32; 8], fields: usize) 
     requires { ⌜ (length (now widths) ≡ 65) × (fields ≤ 6) × (length (now numbers) ≡ 8) ⌝ }
     ensures { λ r. ⌜ Admits seen (now (widths .entry)) (Form.Head fields) (now (numbers .entry)) r (now (widths .entry)) ⌝ }
 {
-    let wrong = placed(seen.letter, widths, 72, numbers[1], fields);
+    let wrong = placed(seen.letter, widths, LETTER_H, numbers[1], fields);
     let mark = marks(numbers, fields, seen.mark);
     answer_for(wrong, mark, seen.heads >= 4)
 }
@@ -200,7 +204,7 @@ fn admit_row(seen: Seen, widths: &[u8; 65], numbers: &[u32; 8], fields: usize) -
     requires { ⌜ (length (now widths) ≡ 65) × (length (now numbers) ≡ 8) ⌝ }
     ensures { λ r. ⌜ Admits seen (now (widths .entry)) (Form.Row fields) (now (numbers .entry)) r (now (widths .entry)) ⌝ }
 {
-    let wrong = placed(seen.letter, widths, 82, numbers[1], fields);
+    let wrong = placed(seen.letter, widths, LETTER_R, numbers[1], fields);
     if wrong != 0 {
         return Admitted::No(wrong);
     }
@@ -231,7 +235,7 @@ pub(crate) fn kept_after(seen: Seen, form: Form, kind: u32, mark: u32) -> Seen
 {
     match form {
         Form::Kind => Seen {
-            letter: 75,
+            letter: LETTER_K,
             kind,
             mark: 0,
             rules: seen.rules,
@@ -239,7 +243,7 @@ pub(crate) fn kept_after(seen: Seen, form: Form, kind: u32, mark: u32) -> Seen
             rows: seen.rows,
         },
         Form::Body(_) => Seen {
-            letter: 66,
+            letter: LETTER_B,
             kind,
             mark,
             rules: seen.rules + 1,
@@ -247,7 +251,7 @@ pub(crate) fn kept_after(seen: Seen, form: Form, kind: u32, mark: u32) -> Seen
             rows: seen.rows,
         },
         Form::Head(_) => Seen {
-            letter: 72,
+            letter: LETTER_H,
             kind,
             mark,
             rules: seen.rules,
@@ -255,7 +259,7 @@ pub(crate) fn kept_after(seen: Seen, form: Form, kind: u32, mark: u32) -> Seen
             rows: seen.rows,
         },
         Form::Row(_) => Seen {
-            letter: 82,
+            letter: LETTER_R,
             kind,
             mark: 0,
             rules: seen.rules,

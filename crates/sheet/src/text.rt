@@ -6,6 +6,7 @@ ghost use lib.ListN.{length, take, drop};
 ghost use lib.Seq.{paste};
 ghost use Rattle.sheet.specs.Read.{ReadMeets};
 ghost use Rattle.sheet.specs.inner.Promises.{RefusalIs, Scanned};
+use crate::LETTER_B;
 use crate::ReadAnswer;
 use crate::Refusal;
 use crate::line::parse;
@@ -67,7 +68,7 @@ fn scan(text: &[u8], numbers: &mut [u32]) -> ReadAnswer
         at += line.len();
         n += 1;
     }
-    if seen.letter == 66 {
+    if seen.letter == LETTER_B {
         return ReadAnswer::Refused(Refusal::OutOfPlace(n + 1));
     }
     ReadAnswer::Lines(n)
