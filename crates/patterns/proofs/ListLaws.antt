@@ -1,10 +1,12 @@
 -- Laws of membership, and of numbers in so many places. Assumes nothing.
-use mathlib.Core.Path.{_≡_, refl, ap}
+use mathlib.Core.Path.{_≡_, refl, sym, ap, _∙_}
 use mathlib.Core.Logic.{_⊎_, inl, inr}
 use mathlib.Core.List.{List, [], _∷_, _++_, map}
-use Prim.Native.Nat.{ℕ, zero, suc, _<_}
+use Prim.Native.Nat.{ℕ, zero, suc, _+_, _≤_, _<_}
+use native.Mathlib.Numerals.{add-one}
 use native.Mathlib.Omega.{arith}
-use lib.ListN.{length, getD}
+use lib.ListN.{length, getD, take, drop}
+use lib.Seq.{drop-cons}
 use Rattle.patterns.specs.Lists.{In}
 use Rattle.patterns.specs.Outcome.{padded}
 
@@ -45,3 +47,15 @@ pub length-padded : (w : ℕ) (ns : List ℕ) → length (padded w ns) ≡ w
 length-padded zero ns = refl
 length-padded (suc w) [] = ap suc (length-padded w [])
 length-padded (suc w) (n ∷ ns) = ap suc (length-padded w ns)
+
+-- The n numbers from a place on, each by its place.
+abbrev pub upFrom : List ℕ → ℕ → ℕ → List ℕ
+upFrom l at zero = []
+upFrom l at (suc n) = getD l at 0 ∷ upFrom l (at + 1) n
+
+pub numbers-from : (l : List ℕ) (at n : ℕ) → at + n ≤ length l → take n (drop at l) ≡ upFrom l at n
+numbers-from l at zero h = refl
+numbers-from l at (suc n) h =
+    let k : at < length l = omega arith in
+    let e : at + 1 ≡ suc at = add-one at in
+    ap (take (suc n)) (drop-cons l at 0 k) ∙ ap (λ (r : List ℕ). getD l at 0 ∷ r) (ap (λ (i : ℕ). take n (drop i l)) (sym e) ∙ numbers-from l (at + 1) n (omega arith))

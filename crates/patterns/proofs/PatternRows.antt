@@ -4,16 +4,16 @@ use mathlib.Core.Bool.{cond}
 use mathlib.Core.Logic.{_⊎_, inl, inr, by-cases}
 use mathlib.Core.List.{List, [], _∷_, _++_}
 use Prim.Native.Nat.{ℕ, zero, suc, _+_, _-_, _*_, _/_, _<_, _≤_}
-use native.Mathlib.Nat.{add-zero, zero-add, add-suc, suc-add}
+use native.Mathlib.Nat.{add-zero, add-assoc, zero-add, add-suc, suc-add}
 use native.Mathlib.Omega.{arith}
 use native.Mathlib.Decide.{decLe}
 use borrow.Author.Tests.{le-leb, lt-leb}
 use lib.Dec.{leb}
-use lib.ListN.{length, getD, take, drop, length-append, length-drop, List·getD-eq-default}
-use lib.Seq.{take-at, drop-append-add, length-take-le, getD-take, getD-drop}
+use lib.ListN.{length, getD, take, drop, length-append, List·getD-eq-default}
+use lib.Seq.{take-at, drop-append-add}
 use Rattle.patterns.specs.Outcome.{padded}
 use Rattle.patterns.specs.Pattern.{patterns, digitsOf, rows, patternTable, digitsIn}
-use Rattle.patterns.proofs.ListLaws.{length-padded}
+use Rattle.patterns.proofs.ListLaws.{length-padded, numbers-from}
 use Rattle.patterns.proofs.PatternRank.{count, ways, first}
 
 rows-row : (ps : List (List ℕ)) (k : ℕ) → k < length ps → take 6 (drop (6 * k) (rows ps)) ≡ padded 6 (getD ps k [])
@@ -100,23 +100,7 @@ pub first-at : (n : ℕ) → n < 7 → getD firstTable n 0 ≡ first n
 unfolding firstTable
 first-at n h = entry first 7 n 0 h
 
--- Six elements of a list, one by one.
-six : (l : List ℕ) → length l ≡ 6
-    → getD l 0 0 ∷ getD l 1 0 ∷ getD l 2 0 ∷ getD l 3 0 ∷ getD l 4 0 ∷ getD l 5 0 ∷ [] ≡ l
-six [] e = absurd (omega arith)
-six (a ∷ []) e = absurd (omega arith)
-six (a ∷ b ∷ []) e = absurd (omega arith)
-six (a ∷ b ∷ c ∷ []) e = absurd (omega arith)
-six (a ∷ b ∷ c ∷ d ∷ []) e = absurd (omega arith)
-six (a ∷ b ∷ c ∷ d ∷ f ∷ []) e = absurd (omega arith)
-six (a ∷ b ∷ c ∷ d ∷ f ∷ g ∷ []) e = refl
-six (a ∷ b ∷ c ∷ d ∷ f ∷ g ∷ h ∷ l) e = absurd (omega arith)
-
 pub six-at : (l : List ℕ) (at : ℕ) → at + 6 ≤ length l
     → getD l at 0 ∷ getD l (at + 1) 0 ∷ getD l (at + 2) 0 ∷ getD l (at + 3) 0 ∷ getD l (at + 4) 0 ∷ getD l (at + 5) 0 ∷ []
     ≡ take 6 (drop at l)
-six-at l at h =
-    let part = take 6 (drop at l) in
-    let n : length part ≡ 6 = length-take-le 6 (drop at l) (rw length-drop (omega arith)) in
-    let one : (k : ℕ) → k < 6 → getD part k 0 ≡ getD l (at + k) 0 = λ k b. getD-take 6 (drop at l) k 0 b ∙ getD-drop at l k 0 in
-    cc (six part n, one 0 (omega arith), one 1 (omega arith), one 2 (omega arith), one 3 (omega arith), one 4 (omega arith), one 5 (omega arith), add-zero at)
+six-at l at h = sym (numbers-from l at 6 h ∙ simp add-assoc)

@@ -2,13 +2,15 @@
 use mathlib.Core.Path.{_≡_, refl, sym, ap, _∙_}
 use mathlib.Core.Bool.{true, false}
 use mathlib.Core.List.{List, [], _∷_, _++_, append-assoc, append-nil}
-use Prim.Native.Nat.{ℕ, zero, suc, _+_, _-_, _*_, _≤_, _<_}
+use Prim.Native.Nat.{ℕ, zero, suc, _+_, _-_, _*_, _≤_}
+use native.Mathlib.Nat.{add-assoc}
 use native.Mathlib.Numerals.{add-one}
 use native.Mathlib.Omega.{arith}
 use lib.Dec.{ltb}
 use lib.ListN.{length, getD, take, drop, set, length-append, length-drop}
-use lib.Seq.{take-length, length-take-le, drop-drop, drop-cons}
+use lib.Seq.{take-length, length-take-le, drop-drop}
 use Rattle.patterns.specs.Outcome.{Outcome, good, refused, counted}
+use Rattle.patterns.proofs.ListLaws.{numbers-from}
 use Rattle.sheet.specs.Line.{columns, inRange}
 use Rattle.sheet.proofs.Lines.{length-columns}
 use Rattle.sheet.proofs.PutLaws.{put-more, ended-put}
@@ -84,21 +86,9 @@ length-stepLines (suc k) ns h =
     )
 
 -- The five numbers from a place on.
-next : (l : List ℕ) (at k : ℕ) → at + k < length l → drop (at + k) l ≡ getD l (at + k) 0 ∷ drop (at + (k + 1)) l
-next l at k h = let e : suc (at + k) ≡ at + (k + 1) = omega arith in drop-cons l (at + k) 0 h ∙ ap (λ (j : ℕ). getD l (at + k) 0 ∷ drop j l) e
-
 pub five-at : (l : List ℕ) (at : ℕ) → at + 5 ≤ length l
     → take 5 (drop at l) ≡ getD l at 0 ∷ getD l (at + 1) 0 ∷ getD l (at + 2) 0 ∷ getD l (at + 3) 0 ∷ getD l (at + 4) 0 ∷ []
-five-at l at h =
-    ap (take 5)
-    (drop-cons l at 0 (omega arith)
-    ∙ ap (λ (j : ℕ). getD l at 0 ∷ drop j l) (sym (add-one at))
-    ∙ ap (λ (r : List ℕ). getD l at 0 ∷ r)
-    (next l at 1 (omega arith)
-    ∙ ap (λ (r : List ℕ). getD l (at + 1) 0 ∷ r)
-    (next l at 2 (omega arith)
-    ∙ ap (λ (r : List ℕ). getD l (at + 2) 0 ∷ r)
-    (next l at 3 (omega arith) ∙ ap (λ (r : List ℕ). getD l (at + 3) 0 ∷ r) (next l at 4 (omega arith))))))
+five-at l at h = numbers-from l at 5 h ∙ simp add-assoc
 
 -- One S line more in the text.
 pub step-put : (t : List ℕ) (k : ℕ) (ns five : List ℕ) → five ≡ take 5 (drop (5 * k) ns) → 5 * (k + 1) ≤ length ns → 74 + 47 * (k + 1) ≤ length t

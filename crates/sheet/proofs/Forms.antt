@@ -1,6 +1,6 @@
 -- The laws of reading a line: what the columns that were read say of it. Assumes nothing.
 use mathlib.Core.Path.{_≡_, refl, sym, ap, subst, _∙_}
-use mathlib.Core.Bool.{true, and-false, false≢true}
+use mathlib.Core.Bool.{true, and-false}
 use mathlib.Core.List.{List, [], _∷_, _++_}
 use mathlib.Core.Option.{Option, none, some}
 use Prim.Native.Nat.{ℕ, zero, suc, _+_, _-_, _*_, _≤_, _<_}
@@ -17,6 +17,7 @@ use Rattle.sheet.specs.inner.Promises.{ParsedAs}
 use Rattle.sheet.specs.declared.Form.{Form}
 use Rattle.sheet.specs.declared.Form.the-variants.{Unknown}
 use Rattle.sheet.proofs.FormLaws.{known-columns}
+use Rattle.sheet.proofs.Lines.{joined-is}
 
 -- Two to seven columns, and fewer, and more.
 pub withFields-inside : (c : ℕ) (form : ℕ → Form) → 2 ≤ c → c < 8 → form (c - 1) ≡ withFields c form
@@ -32,18 +33,6 @@ joined-none : (x : Option ℕ) → joined x none ≡ none
 joined-none none = refl
 joined-none (some n) = refl
 
-record Joined (x : Option ℕ) (y : Option (List ℕ)) (ns : List ℕ) : Type 0 where
-  first : ℕ
-  others : List ℕ
-  first-is : x ≡ some first
-  others-are : y ≡ some others
-  all : ns ≡ first ∷ others
-
-joined-some : (x : Option ℕ) (y : Option (List ℕ)) (ns : List ℕ) → joined x y ≡ some ns → Joined x y ns
-joined-some none y ns e = absurd (false≢true cc)
-joined-some (some n) none ns e = absurd (false≢true cc)
-joined-some (some n) (some ms) ns e = record { first = n; others = ms; first-is = refl; others-are = refl; all = cc }
-
 next-column : (c : ℕ) (bytes : List ℕ) → drop (9 * c) (drop 9 bytes) ≡ drop (9 * suc c) bytes
 next-column c bytes =
     let sum : 9 + 9 * c ≡ 9 * suc c = omega arith in
@@ -54,9 +43,9 @@ pub numbersIn-more : (c : ℕ) (bytes ns : List ℕ) (n : ℕ) → numbersIn c b
     → numbersIn (suc c) bytes ≡ some (ns ++ (n ∷ []))
 numbersIn-more zero bytes ns n e h = rw h (cc)
 numbersIn-more (suc c) bytes ns n e h =
-    let j = joined-some (numberIn (take 9 bytes)) (numbersIn c (drop 9 bytes)) ns e in
-    let more = numbersIn-more c (drop 9 bytes) (j .others) n (j .others-are) (rw next-column h) in
-    rw (j .first-is, more) (ap (λ (l : List ℕ). some (l ++ (n ∷ []))) (sym (j .all)))
+    let (first, others, first-is, others-are, all) = joined-is (numberIn (take 9 bytes)) (numbersIn c (drop 9 bytes)) ns e in
+    let more = numbersIn-more c (drop 9 bytes) others n others-are (rw next-column h) in
+    rw (first-is, more) (ap (λ (l : List ℕ). some (l ++ (n ∷ []))) (sym all))
 
 -- A column that is no number's.
 pub numbersIn-none : (c k : ℕ) (bytes : List ℕ) → k < c → numberIn (take 9 (drop (9 * k) bytes)) ≡ none → numbersIn c bytes ≡ none

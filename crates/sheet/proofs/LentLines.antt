@@ -12,6 +12,7 @@ use lib.ListN.{length, getD, take, drop, length-drop}
 use lib.Seq.{take-nil, drop-cons, length-take-le}
 use Rattle.sheet.specs.Line.{K, Line, formOf, known, inRange, formOfLine, wellFormed, lent}
 use Rattle.patterns.specs.Outcome.{padded}
+use Rattle.patterns.proofs.ListLaws.{numbers-from}
 use Rattle.sheet.specs.Sheet.{refusal}
 use Rattle.sheet.specs.inner.Promises.{Widths, Keeps, keptAfter, Admits, AdmittedAs, usedOf, zeros, rangesRight}
 use Rattle.sheet.specs.declared.Form.{Form}
@@ -23,24 +24,12 @@ use Rattle.sheet.proofs.Lines.{both, drop-twice}
 use Rattle.sheet.proofs.FormLaws.{formed-known, formed-range, formed-few, take-padded}
 use Rattle.sheet.proofs.Sheets.{used-all, refusal-passes}
 
--- The n numbers from a place on, each by its place.
-abbrev upFrom : List ℕ → ℕ → ℕ → List ℕ
-upFrom l at zero = []
-upFrom l at (suc n) = getD l at 0 ∷ upFrom l (at + 1) n
-
-take-drop : (l : List ℕ) (at n : ℕ) → at + n ≤ length l → take n (drop at l) ≡ upFrom l at n
-take-drop l at zero h = refl
-take-drop l at (suc n) h =
-    let k : at < length l = omega arith in
-    let e : at + 1 ≡ suc at = add-one at in
-    ap (take (suc n)) (drop-cons l at 0 k) ∙ ap (λ (r : List ℕ). getD l at 0 ∷ r) (ap (λ (i : ℕ). take n (drop i l)) (sym e) ∙ take-drop l (at + 1) n (omega arith))
-
 pub eight-at :
     (l : List ℕ) (at : ℕ) → at + 8 ≤ length l
     → take 8 (drop at l)
     ≡ getD l at 0 ∷ getD l (at + 1) 0 ∷ getD l (at + 2) 0 ∷ getD l (at + 3) 0 ∷ getD l (at + 4) 0 ∷ getD l (at + 5) 0 ∷ getD l (at + 6) 0
     ∷ getD l (at + 7) 0 ∷ []
-eight-at l at h = take-drop l at 8 h ∙ simp add-assoc
+eight-at l at h = numbers-from l at 8 h ∙ simp add-assoc
 
 -- The line of which these numbers are lent and `fields` are used.
 abbrev pub lineOf : ℕ → List ℕ → Line

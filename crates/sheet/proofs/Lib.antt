@@ -1,8 +1,8 @@
 -- The laws that the proofs of this crate rest on, and the theorems for a reader: Theorems and Examples.
 pub mod FormLaws
-pub mod Forms
 pub mod MarkLaws
 pub mod Lines
+pub mod Forms
 pub mod Sheets
 pub mod WidthLaws
 pub mod OrderLaws

@@ -54,7 +54,7 @@ numbersIn-columns (n ∷ ns) rest h =
     (ap numberIn (ap (take 9) e ∙ take-at (column n) (columns ns ++ rest) 9 (length-column n)) ∙ numberIn-column n (leb-true _ _ (r .0)))
     (ap (numbersIn (length ns)) (ap (drop 9) e ∙ drop-at (column n) (columns ns ++ rest) 9 (length-column n)) ∙ numbersIn-columns ns rest (r .1))
 
-joined-is : (o : Option ℕ) (p : Option (List ℕ)) (ns : List ℕ) → joined o p ≡ some ns → (n : ℕ) × (ms : List ℕ) × (o ≡ some n) × (p ≡ some ms) × (ns ≡ n ∷ ms)
+pub joined-is : (o : Option ℕ) (p : Option (List ℕ)) (ns : List ℕ) → joined o p ≡ some ns → (n : ℕ) × (ms : List ℕ) × (o ≡ some n) × (p ≡ some ms) × (ns ≡ n ∷ ms)
 joined-is none p ns e = absurd (Option·none-ne-some ns e)
 joined-is (some n) none ns e = absurd (Option·none-ne-some ns e)
 joined-is (some n) (some ms) ns e = (n, ms, refl, refl, sym (Option·some-injective (n ∷ ms) ns e))
