@@ -9,7 +9,6 @@ mod small_chase;
 mod table;
 mod walk;
 
-ghost use mathlib.Core.Path.{_≡_};
 ghost use Prim.Native.Nat.{_+_, _≤_, _<_};
 ghost use lib.ListN.{length};
 use console::Input;
@@ -28,45 +27,6 @@ struct Said {
 struct Tried {
     pub cases: usize,
     pub differ: usize,
-}
-
-// Room for the cases.
-fn room_for_input() -> [u8; 196608]
-    ensures { λ r. ⌜ length r ≡ 196608 ⌝ }
-{
-    [0; 196608]
-}
-
-// Room for what is printed; what does not fit is left out.
-fn room_for_output() -> [u8; 65536]
-    ensures { λ r. ⌜ length r ≡ 65536 ⌝ }
-{
-    [0; 65536]
-}
-
-fn room_for_lines() -> [u32; 13104]
-    ensures { λ r. ⌜ length r ≡ 13104 ⌝ }
-{
-    [0; 13104]
-}
-
-fn room_for_steps() -> [u16; 20480]
-    ensures { λ r. ⌜ length r ≡ 20480 ⌝ }
-{
-    [0; 20480]
-}
-
-// Room for more shapes than the judge takes.
-fn room_for_entries() -> [[u32; 8]; 640]
-    ensures { λ r. ⌜ length r ≡ 640 ⌝ }
-{
-    [[0; 8]; 640]
-}
-
-fn room_for_values() -> [[u32; 8]; 2048]
-    ensures { λ r. ⌜ length r ≡ 2048 ⌝ }
-{
-    [[0; 8]; 2048]
 }
 
 // Byte `i`; 0 past the end.
@@ -246,14 +206,7 @@ fn found(rests: bool, deepest: u32, shapes: usize, fired: usize, share: usize) -
 
 // Whether verdict, deepest generation, shapes, fired rules and share are the same.
 fn same_figures(a: [usize; 8], b: [usize; 8]) -> bool {
-    let mut i: usize = 0;
-    while i < 5 {
-        if a[i] != b[i] {
-            return false;
-        }
-        i += 1;
-    }
-    true
+    (a[0] == b[0]) & (a[1] == b[1]) & (a[2] == b[2]) & (a[3] == b[3]) & (a[4] == b[4])
 }
 
 fn tell_figures(out: &mut [u8], end: &mut usize, said: [usize; 8], chased: [usize; 8]) -> bool {
@@ -267,14 +220,14 @@ fn tell_figures(out: &mut [u8], end: &mut usize, said: [usize; 8], chased: [usiz
 
 // Whether the steps can be fired in the chase and are what they must be.
 fn steps_right(lines: &[u32], values: &mut [[u32; 8]], steps: &[u16], n: [usize; 8]) -> bool {
-    let mut met = room_for_entries();
+    let mut met = [[0; 8]; 640];
     if n[0] == 1 {
         if n[7] != 0 {
             return false;
         }
         return walk::settled_right(lines, values, &mut met, steps, n[5], n[6], n[1]);
     }
-    let mut met_in_loop = room_for_entries();
+    let mut met_in_loop = [[0; 8]; 640];
     walk::endless_right(
         lines,
         values,
@@ -287,12 +240,12 @@ fn steps_right(lines: &[u32], values: &mut [[u32; 8]], steps: &[u16], n: [usize;
     )
 }
 
-// Compares an answer with the chase: a verdict with all its numbers, refusal 11 with the count of shapes.
+// Compares an answer with the chase, which has room for more shapes than the judge takes: a verdict with all its numbers, refusal 11 with the count of shapes.
 fn compare(out: &mut [u8], end: &mut usize, lines: &[u32], steps: &[u16], said: Said) -> bool {
-    let mut records = room_for_entries();
-    let mut values = room_for_values();
-    let mut shapes = room_for_entries();
-    let mut fired = room_for_entries();
+    let mut records = [[0; 8]; 640];
+    let mut values = [[0; 8]; 2048];
+    let mut shapes = [[0; 8]; 640];
+    let mut fired = [[0; 8]; 640];
     let rests = small_chase::chase(lines, &mut records, &mut values, &mut shapes, &mut fired);
     if said.letter == b'N' {
         return tell(out, end, 512 < table::size(&shapes), b"the chase");
@@ -342,7 +295,7 @@ fn try_lines(
 
 // Lends as many steps as the case says.
 fn lend_steps(out: &mut [u8], end: &mut usize, head: &[u8], lines: &[u32]) -> bool {
-    let mut steps = room_for_steps();
+    let mut steps = [0; 20480];
     let count = column_number(head, 10);
     if 4096 < count {
         return tell(out, end, false, b"the form of a case");
@@ -353,11 +306,10 @@ fn lend_steps(out: &mut [u8], end: &mut usize, head: &[u8], lines: &[u32]) -> bo
 
 // Tries a sheet's text.
 fn try_text(out: &mut [u8], end: &mut usize, head: &[u8], text: &[u8]) -> bool {
-    let mut lines = room_for_lines();
+    let mut lines = [0; 13104];
     match sheet::read(text, &mut lines) {
         ReadAnswer::Lines(count) => {
-            let used = 8 * count;
-            lend_steps(out, end, head, &lines[..used])
+            lend_steps(out, end, head, console::front_lines(&lines, count))
         }
         ReadAnswer::Refused(why) => {
             let said = sheet::refusal_numbers(why);
@@ -498,24 +450,22 @@ fn print_tried(out: &mut [u8], end: &mut usize, all: Tried) {
     }
 }
 
-// Tries all cases and prints what is found.
+// Tries all cases and prints what is found; what does not fit into the output is left out.
 fn print_cases(cases: &[u8]) {
-    let mut out = room_for_output();
+    let mut out = [0; 65536];
     let mut end: usize = 0;
     let sheets = try_cases(&mut out, &mut end, cases);
     let all = try_patterns(&mut out, &mut end, sheets);
     print_tried(&mut out, &mut end, all);
-    if end <= 65536 {
-        console::print(&out[..end]);
-    }
+    console::print(console::front(&out, end));
 }
 
 fn main() {
-    let mut cases = room_for_input();
+    let mut cases = [0; 196608];
     let usage =
         b"usage: cases [FILE]\nTries the cases in FILE, or in standard input where FILE is - or none is named.\n";
     match console::read_input(usage, &mut cases) {
-        Input::Text(size) => print_cases(&cases[..size]),
+        Input::Text(size) => print_cases(console::front(&cases, size)),
         Input::Nothing => {}
     }
 }

@@ -38,14 +38,8 @@ pub(crate) fn has_room(table: &[[u32; 8]], n: usize) -> bool {
 }
 
 pub(crate) fn same(a: [u32; 8], b: [u32; 8]) -> bool {
-    let mut i: usize = 0;
-    while i < 8 {
-        if a[i] != b[i] {
-            return false;
-        }
-        i += 1;
-    }
-    true
+    let first = (a[0] == b[0]) & (a[1] == b[1]) & (a[2] == b[2]) & (a[3] == b[3]);
+    first & (a[4] == b[4]) & (a[5] == b[5]) & (a[6] == b[6]) & (a[7] == b[7])
 }
 
 // The place of an entry; 0 where it is not in the table.

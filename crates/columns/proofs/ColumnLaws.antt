@@ -1,16 +1,18 @@
 -- The laws of columns: a column has nine bytes, a number's column is read as the number, and nothing else is read as it. Assumes nothing.
-use mathlib.Core.Path.{_≡_, refl, ap, _∙_}
+use mathlib.Core.Path.{_≡_, refl, sym, ap, _∙_}
 use mathlib.Core.Bool.{Bool, true, false, cond, _&&_, and-eq-true-iff, false≢true}
 use mathlib.Core.List.{List, [], _∷_, _++_}
 use mathlib.Core.Option.{Option, none, some}
 use Prim.Native.Nat.{ℕ, zero, suc, _+_, _-_, _*_, _/_, _%_, _^_, _≤_, _<_}
 use native.Mathlib.Nat.{add-sub-cancel-left, div-add-mod, pow-suc}
+use native.Mathlib.Numerals.{add-one}
 use native.Mathlib.Omega.{arith}
 use lib.Dec.{eqb, leb}
-use lib.ListN.{length, replicate, length-append}
-use borrow.Author.Tests.{le-leb, eq-eqb, eqb-true, leb-true}
+use lib.ListN.{length, getD, set, replicate, length-append, length-set}
+use lib.Seq.{take-all, paste, paste-zero, paste-suc}
+use borrow.Author.Tests.{le-leb, lt-leb, eq-eqb, eqb-true, leb-true}
 use Rattle.patterns.specs.Outcome.{good, refused}
-use Rattle.columns.specs.Column.{largestNumber, placeByte, places, column, columnFor, decimal, same, numberIn, inForm}
+use Rattle.columns.specs.Column.{largestNumber, placeByte, places, column, columnFor, put, columnPut, decimal, same, numberIn, inForm}
 
 pub length-places : (w n : ℕ) → length (places w n) ≡ w
 length-places zero n = refl
@@ -118,3 +120,46 @@ columnFor-read n = by-size (leb n largestNumber) refl
     by-size : (t : Bool) → leb n largestNumber ≡ t → inForm (numberIn (cond t (column n) (replicate 9 32))) ≡ cond t (good n) (refused 2 0)
     by-size true e = ap inForm (numberIn-column n (leb-true n largestNumber e))
     by-size false e = ap inForm blanks-read
+
+-- ---- a column put into a text
+
+pub columnPut-short : (text : List ℕ) (at n : ℕ) → length text < at + 9 → text ≡ columnPut text at n
+unfolding columnPut
+columnPut-short text at n h = rw (lt-leb (at + 9) (length text) h)
+
+columnPut-nine : (text : List ℕ) (at n : ℕ) → at + 9 ≤ length text → columnPut text at n ≡ paste text at (columnFor n) 9
+unfolding columnPut
+columnPut-nine text at n h = rw (le-leb (at + 9) (length text) h, take-all 9 (columnFor n) (omega (arith, length-columnFor n)), length-columnFor n)
+
+-- For a number that has a column.
+pub columnPut-fits : (text : List ℕ) (at n : ℕ) → at + 9 ≤ length text → n ≤ largestNumber → columnPut text at n ≡ put text at (column n)
+unfolding columnPut
+columnPut-fits text at n h fits = rw (le-leb (at + 9) (length text) h, columnFor-fits n fits)
+
+-- Putting it: i of the nine bytes are in.
+pub record Putting (text : List ℕ) (at n : ℕ) (bytes after : List ℕ) (i : ℕ) : Type 0 where
+  pub upto : i ≤ 9
+  pub room : at + 9 ≤ length text
+  pub right : bytes ≡ columnFor n
+  pub size : length after ≡ length text
+  pub pasted : after ≡ paste text at bytes i
+
+module _ {text : List ℕ} {at n : ℕ} {bytes : List ℕ} where
+  pub putting-begun : at + 9 ≤ length text → bytes ≡ columnFor n → Putting text at n bytes text 0
+  putting-begun room right = record { upto = omega arith; room = room; right = right; size = refl; pasted = paste-zero text at bytes }
+
+  pub putting-more : {after : List ℕ} {i : ℕ} → i < 9 → Putting text at n bytes after i → Putting text at n bytes (set after (at + i) (getD bytes i 0)) (i + 1)
+  putting-more {after} {i} h p =
+      let nine : length bytes ≡ 9 = ap length (p .right) ∙ length-columnFor n in
+      record {
+        upto = omega arith;
+        room = p .room;
+        right = p .right;
+        size = length-set after (at + i) (getD bytes i 0) ∙ p .size;
+        pasted = rw (p .pasted, add-one i) (paste-suc text at bytes i 0 (omega arith) (omega arith));
+      }
+
+  pub putting-done : {after : List ℕ} {i : ℕ} → 9 ≤ i → Putting text at n bytes after i → after ≡ columnPut text at n
+  putting-done {after} {i} h p =
+      let all : i ≡ 9 = omega arith in
+      p .pasted ∙ rw (all, p .right) (sym (columnPut-nine text at n (p .room)))

@@ -4,7 +4,7 @@ use mathlib.Core.List.{List, [], _∷_, _++_}
 use mathlib.Core.Option.{Option, none, some}
 use Prim.Native.Nat.{ℕ, zero, suc, _+_, _-_, _*_, _/_, _%_}
 use lib.Dec.{eqb, leb}
-use lib.ListN.{replicate}
+use lib.ListN.{length, replicate, take, drop}
 use Rattle.patterns.specs.Outcome.{Outcome, good, refused}
 use Rattle.columns.specs.declared.Number.{Number}
 use Rattle.columns.specs.declared.Number.the-variants.{Is, NotOne}
@@ -30,6 +30,14 @@ column n = places 8 (n / 10) ++ ((48 + (n % 10)) ∷ [])
 -- What `column` answers: the column of n; nine blanks where n is over the largest number.
 abbrev pub columnFor : ℕ → List ℕ
 columnFor n = cond (leb n largestNumber) (column n) (replicate 9 32)
+
+-- A text with other bytes at a place.
+abbrev pub put : List ℕ → ℕ → List ℕ → List ℕ
+put text at new = take at text ++ new ++ drop (at + length new) text
+
+-- What the function `put` leaves: the text with those nine bytes at a place that has room for them; otherwise the text as it was.
+unfoldable pub columnPut : List ℕ → ℕ → ℕ → List ℕ
+columnPut text at n = cond (leb (at + 9) (length text)) (put text at (columnFor n)) text
 
 -- The decimal number that bytes show after the digits of n. A blank is below the byte of 0, so it counts as 0.
 abbrev pub decimal : ℕ → List ℕ → ℕ

@@ -2,7 +2,7 @@
 ghost use mathlib.Core.Path.{_≡_};
 ghost use Prim.Native.Nat.{_+_, _≤_};
 ghost use lib.ListN.{length, take, drop};
-ghost use Rattle.columns.specs.Column.{placeByte, column as columnOf, columnFor, inForm, numberIn, numberSays};
+ghost use Rattle.columns.specs.Column.{placeByte, column as columnOf, columnFor, columnPut, inForm, numberIn, numberSays};
 
 // What nine bytes are read as.
 pub enum Number {
@@ -55,6 +55,24 @@ pub fn column(n: u32) -> [u8; 9]
         return [b' '; 9];
     }
     digits(n)
+}
+
+// Puts the nine bytes of `column(n)` into a text at `at`. Where there is no room for nine, it changes nothing.
+pub fn put(text: &mut [u8], at: usize, n: u32)
+    ensures { λ _. ⌜ now (text .exit) ≡ columnPut (now (text .entry)) at n ⌝ }
+{
+    if text.len() < 9 {
+        return;
+    }
+    if text.len() - 9 < at {
+        return;
+    }
+    let bytes = column(n);
+    let mut i: usize = 0;
+    while i < 9 {
+        text[at + i] = bytes[i];
+        i += 1;
+    }
 }
 
 fn wide(b: u8) -> u32

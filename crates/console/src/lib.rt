@@ -1,10 +1,11 @@
 // A program's input and output: one text, from standard input or from the file that the argument names, and one text to standard output.
+// The front of a text or of lines is what a program has filled of the room it made.
 //
 // An argument that is not known, or an input that cannot be read to its end, gives a message on standard error and no text.
 ghost use mathlib.Core.Path.{_≡_};
 ghost use mathlib.Core.Bool.{true};
-ghost use Prim.Native.Nat.{_≤_};
-ghost use lib.ListN.{length};
+ghost use Prim.Native.Nat.{_*_, _≤_};
+ghost use lib.ListN.{length, take};
 ghost use Rattle.console.specs.Input.{InBuffer};
 ghost use Rattle.console.specs.inner.Reads.{Fits};
 use libc::STDERR_FILENO;
@@ -177,4 +178,24 @@ pub fn print(text: &[u8]) -> bool
         return true;
     }
     write_out(text)
+}
+
+// The first `size` bytes of a text; all of it where it has fewer.
+pub fn front<'a>(text: &'a [u8], size: usize) -> &'a [u8]
+    ensures { λ r. ⌜ now r ≡ take size (now (text .entry)) ⌝ }
+{
+    if size < text.len() {
+        return &text[..size];
+    }
+    text
+}
+
+// The first `count` lines, eight numbers each; all of them where there are fewer.
+pub fn front_lines<'a>(lines: &'a [u32], count: usize) -> &'a [u32]
+    ensures { λ r. ⌜ now r ≡ take (8 * count) (now (lines .entry)) ⌝ }
+{
+    if count <= lines.len() / 8 {
+        return &lines[..8 * count];
+    }
+    lines
 }

@@ -2,7 +2,7 @@
 use mathlib.Core.Path.{_≡_, refl, sym, ap, _∙_}
 use mathlib.Core.List.{List, [], _∷_, _++_, append-assoc, append-nil}
 use Prim.Native.Nat.{ℕ, zero, suc, _+_, _*_, _/_, _<_, _≤_}
-use native.Mathlib.Nat.{mul-suc, mul-zero}
+use native.Mathlib.Nat.{mul-suc, mul-zero, mul-le-mul-left, div-div-eq-div-mul}
 use native.Mathlib.Numerals.{add-one}
 use native.Mathlib.Omega.{arith}
 use lib.ListN.{length, getD, take, drop, length-append}
@@ -91,25 +91,43 @@ pub allBytes-append : (w : ℕ) (ns ms : List ℕ) → allBytes w (ns ++ ms) ≡
 allBytes-append w [] ms = refl
 allBytes-append w (n ∷ ns) ms = ap (λ l. bytesOf w n ++ l) (allBytes-append w ns ms) ∙ sym (append-assoc (bytesOf w n) (allBytes w ns) (allBytes w ms))
 
--- The bytes of the first n numbers stand at the front.
-abbrev pub Encoded : ℕ → List ℕ → List ℕ → List ℕ → ℕ → Type 0
-Encoded w numbers before after n = Filled (allBytes w (take n numbers)) before after
+-- Putting the first n numbers into bytes: the bytes of i of them stand at the front.
+pub record Encoding (w : ℕ) (numbers before : List ℕ) (n : ℕ) (after : List ℕ) (i : ℕ) : Type 0 where
+  pub upto : i ≤ n
+  pub lent : n ≤ length numbers
+  pub room : w * n ≤ length before
+  pub filled : Filled (allBytes w (take i numbers)) before after
 
-length-encoded : (w n : ℕ) (numbers : List ℕ) → n ≤ length numbers → length (allBytes w (take n numbers)) ≡ w * n
-length-encoded w n numbers h = length-allBytes w (take n numbers) ∙ ap (λ k. w * k) (length-take-le n numbers h)
+length-encoded : (w i : ℕ) (numbers : List ℕ) → i ≤ length numbers → length (allBytes w (take i numbers)) ≡ w * i
+length-encoded w i numbers h = length-allBytes w (take i numbers) ∙ ap (λ k. w * k) (length-take-le i numbers h)
 
-pub encoded-more :
-    (w : ℕ) (numbers before after : List ℕ) (n : ℕ) → n < length numbers → w * (n + 1) ≤ length before → Encoded w numbers before after n
-    → Encoded w numbers before (sets after (w * n) (bytesOf w (getD numbers n 0))) (n + 1)
-encoded-more w numbers before after n h room d =
-    let v = getD numbers n 0 in
-    let fits : w * n + length (bytesOf w v) ≤ length before = omega (arith, length-bytesOf w (getD numbers n 0), add-one n, mul-suc w n) in
-    let one : allBytes w (take (n + 1) numbers) ≡ allBytes w (take n numbers) ++ bytesOf w v =
-    ap (λ k. allBytes w (take k numbers)) (add-one n) ∙ ap (allBytes w) (take-suc numbers n 0 h) ∙ allBytes-append w (take n numbers) (v ∷ [])
-    ∙ ap (λ l. allBytes w (take n numbers) ++ l) (append-nil (bytesOf w v)) in
-    rw one (filled-more (bytesOf w v) (w * n) (length-encoded w n numbers (omega arith)) fits d)
+module _ {w : ℕ} {numbers before : List ℕ} {n : ℕ} where
+  pub encoding-begun : n ≤ length numbers → w * n ≤ length before → Encoding w numbers before n before 0
+  encoding-begun lent room = record { upto = omega arith; lent = lent; room = room; filled = filled-none before }
 
-pub encoded-all :
-    (w : ℕ) (numbers before after : List ℕ) (n : ℕ) → n ≤ length numbers → Encoded w numbers before after n
-    → after ≡ allBytes w (take n numbers) ++ drop (w * n) before
-encoded-all w numbers before after n h d = d .same ∙ ap (λ k. allBytes w (take n numbers) ++ drop k before) (length-encoded w n numbers h)
+  -- One number more.
+  pub encoding-more :
+      {after : List ℕ} {i : ℕ} → i < n → Encoding w numbers before n after i
+      → Encoding w numbers before n (sets after (w * i) (bytesOf w (getD numbers i 0))) (i + 1)
+  encoding-more {after} {i} h e =
+      let v = getD numbers i 0 in
+      let front = take i numbers in
+      let below : w * suc i ≤ w * n = mul-le-mul-left w (omega arith) in
+      let one : allBytes w (take (i + 1) numbers) ≡ allBytes w front ++ bytesOf w v =
+      rw (add-one i, take-suc numbers i 0 (omega arith), allBytes-append w front (v ∷ []), append-nil (bytesOf w v)) in
+      let fits : w * i + length (bytesOf w v) ≤ length before = omega (arith, length-bytesOf w v, mul-suc w i) in
+      let filled = filled-more (bytesOf w v) (w * i) (length-encoded w i numbers (omega arith)) fits (e .filled) in
+      record { upto = omega arith; lent = e .lent; room = e .room; filled = rw one filled }
+
+  -- All of them.
+  pub encoding-done : {after : List ℕ} {i : ℕ} → n ≤ i → Encoding w numbers before n after i → after ≡ allBytes w (take n numbers) ++ drop (w * n) before
+  encoding-done {after} {i} h e =
+      let all : i ≡ n = omega arith in
+      e .filled .same ∙ rw (all, length-encoded w n numbers (e .lent))
+
+-- The third and the fourth byte of a number, by one division.
+pub third-byte : (v : ℕ) → v / 65536 ≡ v / 256 / 256
+third-byte v = sym (div-div-eq-div-mul v 256 256)
+
+pub fourth-byte : (v : ℕ) → v / 16777216 ≡ v / 256 / 256 / 256
+fourth-byte v = sym (div-div-eq-div-mul v 65536 256) ∙ ap (λ k. k / 256) (third-byte v)

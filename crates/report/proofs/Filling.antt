@@ -9,12 +9,13 @@ use native.Mathlib.Omega.{arith}
 use lib.Dec.{ltb}
 use lib.ListN.{length, getD, take, drop, set, length-append, length-drop}
 use lib.Seq.{take-length, length-take-le, drop-drop}
+use Rattle.columns.specs.Column.{put}
 use Rattle.patterns.specs.Outcome.{Outcome, good, refused, counted}
 use Rattle.patterns.proofs.ListLaws.{numbers-from}
 use Rattle.sheet.specs.Line.{columns, inRange}
 use Rattle.sheet.proofs.Lines.{length-columns}
 use Rattle.sheet.proofs.PutLaws.{put-more, ended-put}
-use Rattle.report.specs.Lines.{lineText, put, putOf, putSays, heldAt, PutMeets}
+use Rattle.report.specs.Lines.{lineText, putOf, putSays, heldAt, PutMeets}
 use Rattle.chase.specs.Judge.{Verdict, judged}
 use Rattle.report.specs.Report.{letterV, letterS, verdictNumbers, stepLines, judgementText}
 use Rattle.report.specs.declared.PutAnswer.{PutAnswer}

@@ -4,7 +4,7 @@ use mathlib.Core.List.{List, _++_}
 use Prim.Native.Nat.{ℕ, _+_, _*_, _/_, _≤_}
 use native.Mathlib.Nat.{zero-add}
 use native.Mathlib.Omega.{arith}
-use lib.ListN.{length, take, drop, length-append}
+use lib.ListN.{length, take, drop}
 use lib.Seq.{take-at}
 use Rattle.patterns.specs.Outcome.{Outcome, good, refused, mapGood, counted, held}
 use Rattle.sheet.specs.Line.{Line, lentOf}
@@ -79,9 +79,3 @@ reported text before n after room f = (
   room,
   (f .printed, f .right, f .count, f .output ∙ ap (λ (k : ℕ). f .printed ++ drop k before) (zero-add (length (f .printed)) ∙ sym (f .count))),
 )
-
--- What is counted lies in the output.
-pub report-counts : (text before : List ℕ) (n : ℕ) (after : List ℕ) → ReportMeets text before (good n) after → n ≤ length after
-report-counts text before n after m =
-    let printed = m .1 .0 in
-    omega (arith, m .1 .2, ap length (m .1 .3), length-append printed (drop n before))

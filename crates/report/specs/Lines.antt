@@ -2,10 +2,11 @@
 use mathlib.Core.Path.{_≡_}
 use mathlib.Core.Bool.{cond}
 use mathlib.Core.List.{List, [], _∷_, _++_}
-use Prim.Native.Nat.{ℕ, _+_, _-_}
+use Prim.Native.Nat.{ℕ, _-_}
 use lib.Dec.{ltb}
-use lib.ListN.{length, take, drop}
+use lib.ListN.{length}
 use Rattle.patterns.specs.Outcome.{Outcome, good, refused, counted}
+use Rattle.columns.specs.Column.{put}
 use Rattle.sheet.specs.Line.{columns, inRange}
 use Rattle.report.specs.declared.PutAnswer.{PutAnswer}
 use Rattle.report.specs.declared.PutAnswer.the-variants.{Bytes, NumberTooLarge, TextShort}
@@ -24,10 +25,6 @@ putSays TextShort = refused 9 0
 unfoldable pub putOf : ℕ → List ℕ → ℕ → Outcome (List ℕ)
 putOf letter numbers room =
     cond (inRange numbers) (cond (ltb room (length (lineText letter numbers))) (refused 9 0) (good (lineText letter numbers))) (refused 8 0)
-
--- A text with other bytes at a place.
-abbrev pub put : List ℕ → ℕ → List ℕ → List ℕ
-put text at new = take at text ++ new ++ drop (at + length new) text
 
 -- Lent text with what is put at a place; a refusal leaves all.
 abbrev pub heldAt : ℕ → Outcome (List ℕ) → List ℕ → List ℕ

@@ -5,12 +5,11 @@ ghost use mathlib.Core.List.{[], _∷_};
 ghost use Prim.Native.Nat.{_+_, _-_, _*_, _≤_};
 ghost use lib.Dec.{ltb};
 ghost use lib.ListN.{length, take, drop};
-ghost use lib.Seq.{paste};
-ghost use Rattle.columns.specs.Column.{column as columnOf};
+ghost use Rattle.columns.specs.Column.{put};
 ghost use Rattle.sheet.specs.Line.{inRange};
 ghost use Rattle.chase.specs.Judge.{judged};
 ghost use Rattle.judging.specs.Answer.{verdictOf};
-ghost use Rattle.report.specs.Lines.{lineText, put, PutMeets};
+ghost use Rattle.report.specs.Lines.{lineText, PutMeets};
 ghost use Rattle.report.specs.Report.{verdictNumbers, stepLines, refusalText, judgementText, reportSays, Judges, Prints, ReportMeets};
 ghost use Rattle.report.specs.inner.Promises.{SheetLent, Filled};
 use judging::Figures;
@@ -49,27 +48,6 @@ fn room_for_steps() -> [u16; 20480]
     [0; 20480]
 }
 
-// The column of a number that has one.
-fn column(n: usize) -> [u8; 9]
-    requires { ⌜ n ≤ 99999999 ⌝ }
-    ensures { λ r. ⌜ r ≡ columnOf n ⌝ }
-{
-    sheet::column(n as u32)
-}
-
-// Puts the column of `n` at `at`.
-fn put_column(text: &mut [u8], at: usize, n: usize)
-    requires { ⌜ (n ≤ 99999999) × (at + 9 ≤ length (now text)) ⌝ }
-    ensures { λ _. ⌜ now (text .exit) ≡ paste (now (text .entry)) at (columnOf n) 9 ⌝ }
-{
-    let bytes = column(n);
-    let mut i: usize = 0;
-    while i < 9 {
-        text[at + i] = bytes[i];
-        i += 1;
-    }
-}
-
 // Puts a line that fits at `at`.
 fn fill_line(letter: u8, numbers: &[usize], text: &mut [u8], at: usize)
     requires { ⌜ (inRange (now numbers) ≡ true) × (at + 9 * length (now numbers) + 2 ≤ length (now text)) ⌝ }
@@ -78,7 +56,7 @@ fn fill_line(letter: u8, numbers: &[usize], text: &mut [u8], at: usize)
     text[at] = letter;
     let mut c: usize = 0;
     while c < numbers.len() {
-        put_column(text, at + 9 * c + 1, numbers[c]);
+        columns::put(text, at + 9 * c + 1, numbers[c] as u32);
         c += 1;
     }
     text[at + 9 * numbers.len() + 1] = 10;

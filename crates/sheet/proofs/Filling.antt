@@ -17,7 +17,8 @@ use Rattle.sheet.proofs.FormLaws.{formed-range, formed-few, letter-smal
 use Rattle.sheet.proofs.Sheets.{sheetHeld-is}
 use Rattle.sheet.proofs.WidthLaws.{kind-width, first-padded, declaredIn, widths-more}
 use Rattle.sheet.proofs.LentLines.{lineOf, from, used-is}
-use Rattle.sheet.proofs.PutLaws.{put, length-put, put-more}
+use Rattle.columns.specs.Column.{put}
+use Rattle.sheet.proofs.PutLaws.{length-put, put-more}
 
 -- What is known when n lines are put into the text.
 pub record Fills (numbers text₀ text widths : List ℕ) (at n : ℕ) : Type 0 where

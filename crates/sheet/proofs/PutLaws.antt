@@ -5,24 +5,15 @@ use Prim.Native.Nat.{ℕ, _+_, _*_, _<_, _≤_}
 use native.Mathlib.Numerals.{add-one}
 use native.Mathlib.Omega.{arith}
 use lib.ListN.{length, getD, take, drop, set, length-append, length-drop}
-use lib.Seq.{take-all, drop-cons, take-suc, take-at, drop-append-add, length-take-le, paste, getD-drop, sets-eq, length-sets}
-use Rattle.columns.specs.Column.{column}
+use lib.Seq.{drop-cons, take-suc, take-at, drop-append-add, length-take-le, getD-drop, sets-eq, length-sets}
+use Rattle.columns.specs.Column.{largestNumber, column, put, columnPut}
 use Rattle.sheet.specs.Line.{columns, render}
-use Rattle.columns.proofs.ColumnLaws.{length-column}
+use Rattle.columns.proofs.ColumnLaws.{length-column, columnPut-fits}
 use Rattle.sheet.proofs.Lines.{drop-twice, length-columns}
 use Rattle.sheet.proofs.LentLines.{lineOf}
 
--- The text with s at a place.
-abbrev pub put : List ℕ → ℕ → List ℕ → List ℕ
-put t at s = take at t ++ s ++ drop (at + length s) t
-
 put-byte : (t : List ℕ) (at b : ℕ) → at < length t → set t at b ≡ put t at (b ∷ [])
 put-byte t at b h = sets-eq (b ∷ []) t at (omega arith)
-
-put-column : (t : List ℕ) (at n : ℕ) → paste t at (column n) 9 ≡ put t at (column n)
-put-column t at n =
-    let e : length (column n) ≡ 9 = length-column n in
-    ap (λ (s : List ℕ). take at t ++ s ++ drop (at + 9) t) (take-all 9 (column n) (omega arith)) ∙ ap (λ (k : ℕ). take at t ++ column n ++ drop (at + k) t) (sym e)
 
 pub length-put : (t : List ℕ) (at : ℕ) (s : List ℕ) → at + length s ≤ length t → length (put t at s) ≡ length t
 length-put t at s h = ap length (sym (sets-eq s t at h)) ∙ length-sets t at s
@@ -55,9 +46,9 @@ module _ (ns t : List ℕ) (at : ℕ) where
 
   -- One column more.
   pub column-put :
-      (c : ℕ) → c < length ns → at + 9 * c + 10 ≤ length t
-      → paste (put t (at + 1) (columns (take c ns))) (at + 9 * c + 1) (column (getD ns c 0)) 9 ≡ put t (at + 1) (columns (take (c + 1) ns))
-  column-put c h room =
+      (c : ℕ) {text : List ℕ} → c < length ns → at + 9 * c + 10 ≤ length t → getD ns c 0 ≤ largestNumber → text ≡ put t (at + 1) (columns (take c ns))
+      → columnPut text (at + 9 * c + 1) (getD ns c 0) ≡ put t (at + 1) (columns (take (c + 1) ns))
+  column-put c {text} h room fits is =
       let done : List ℕ = columns (take c ns) in
       let new : List ℕ = column (getD ns c 0) in
       let e : length done ≡ 9 * c = first-columns c (omega arith) in
@@ -67,9 +58,9 @@ module _ (ns t : List ℕ) (at : ℕ) where
       ∙ ap columns (sym (take-suc ns c 0 h))
       ∙ ap (λ (k : ℕ). columns (take k ns)) (sym (add-one c)) in
       let p : at + 9 * c + 1 ≡ at + 1 + length done = omega arith in
-      put-column (put t (at + 1) done) (at + 9 * c + 1) (getD ns c 0)
-      ∙ ap (λ (k : ℕ). put (put t (at + 1) done) k new) p
-      ∙ put-more t (at + 1) done new (omega (arith, length-column (getD ns c 0)))
+      let long : length text ≡ length t = ap length is ∙ columns-long c (omega arith) (omega arith) in
+      columnPut-fits text (at + 9 * c + 1) (getD ns c 0) (omega arith) fits
+      ∙ rw (is, p) (put-more t (at + 1) done new (omega (arith, length-column (getD ns c 0))))
       ∙ ap (put t (at + 1)) f
 
   -- A letter before them and byte 10 after them.
@@ -96,14 +87,12 @@ module _ (numbers : List ℕ) (eight : length numbers ≡ 8) (t : List ℕ) (at 
   lent-columns-long c h = let e = seven in columns-long (drop 1 numbers) t at c (omega arith) (omega arith)
 
   pub lent-column-put :
-      (c : ℕ) → c < fields + 1
-      → paste (put t (at + 1) (columns (take c (drop 1 numbers)))) (at + 9 * c + 1) (column (getD numbers (c + 1) 0)) 9
-      ≡ put t (at + 1) (columns (take (c + 1) (drop 1 numbers)))
-  lent-column-put c h =
+      (c : ℕ) {text : List ℕ} → c < fields + 1 → getD numbers (c + 1) 0 ≤ largestNumber → text ≡ put t (at + 1) (columns (take c (drop 1 numbers)))
+      → columnPut text (at + 9 * c + 1) (getD numbers (c + 1) 0) ≡ put t (at + 1) (columns (take (c + 1) (drop 1 numbers)))
+  lent-column-put c {text} h fits is =
       let e = seven in
       let g : getD numbers (c + 1) 0 ≡ getD (drop 1 numbers) c 0 = sym (getD-drop 1 numbers c 0 ∙ ap (λ (k : ℕ). getD numbers k 0) (omega arith)) in
-      ap (λ (n : ℕ). paste (put t (at + 1) (columns (take c (drop 1 numbers)))) (at + 9 * c + 1) (column n) 9) g
-      ∙ column-put (drop 1 numbers) t at c (omega arith) (omega arith)
+      ap (columnPut text (at + 9 * c + 1)) g ∙ column-put (drop 1 numbers) t at c (omega arith) (omega arith) (omega arith) is
 
   pub line-put :
       set (put (set t at (getD numbers 0 0)) (at + 1) (columns (take (fields + 1) (drop 1 numbers)))) (at + 9 * fields + 10) 10

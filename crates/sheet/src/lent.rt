@@ -4,8 +4,6 @@ ghost use mathlib.Core.Bool.{cond, true};
 ghost use Prim.Native.Nat.{suc, _+_, _*_, _≤_, _<_};
 ghost use lib.Dec.{eqb};
 ghost use lib.ListN.{length, getD, set, take, drop};
-ghost use lib.Seq.{paste};
-ghost use Rattle.columns.specs.Column.{column as columnOf};
 ghost use Rattle.patterns.specs.Outcome.{mapGood};
 ghost use Rattle.sheet.specs.Line.{K, inRange};
 ghost use Rattle.sheet.specs.Write.{sheetHeld};
@@ -115,19 +113,6 @@ pub(crate) fn measure(lines: &[u32]) -> Measured
     Measured::Size(size)
 }
 
-// Puts the column of `n` at `at`.
-fn put_column(text: &mut [u8], at: usize, n: u32)
-    requires { ⌜ (at + 9 ≤ length (now text)) × (n ≤ 99999999) ⌝ }
-    ensures { λ _. ⌜ now (text .exit) ≡ paste (now (text .entry)) at (columnOf n) 9 ⌝ }
-{
-    let bytes = columns::column(n);
-    let mut i: usize = 0;
-    while i < 9 {
-        text[at + i] = bytes[i];
-        i += 1;
-    }
-}
-
 // Puts a line's text at `at`: its letter, its kind and `fields` numbers in columns, byte 10.
 fn put_line(text: &mut [u8], at: usize, numbers: [u32; 8], fields: usize)
     requires { ⌜ (fields ≤ 6) × (at + 9 * fields + 11 ≤ length (now text)) × (getD numbers 0 0 < 256) × (inRange (take (suc fields) (drop 1 numbers)) ≡ true) ⌝ }
@@ -136,7 +121,7 @@ fn put_line(text: &mut [u8], at: usize, numbers: [u32; 8], fields: usize)
     text[at] = numbers[0] as u8;
     let mut c: usize = 0;
     while c < fields + 1 {
-        put_column(text, at + 9 * c + 1, numbers[c + 1]);
+        columns::put(text, at + 9 * c + 1, numbers[c + 1]);
         c += 1;
     }
     text[at + 9 * fields + 10] = 10;

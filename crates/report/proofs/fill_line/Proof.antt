@@ -1,17 +1,16 @@
 -- `report::fill_line` meets its contract. After the letter, the first c columns are put. Assumes nothing.
 use mathlib.Core.Path.{_≡_, ap, _∙_}
 use mathlib.Core.List.{List, []}
-use Prim.Native.Nat.{ℕ, _+_, _-_, _*_, _≤_}
+use Prim.Native.Nat.{ℕ, _+_, _-_, _*_, _≤_, _<_}
 use native.Mathlib.Omega.{arith}
 use borrow.Author.Needs.{needs}
 use denote.Ref.{now}
 use lib.ListN.{length, getD, set, take, length-set}
-use lib.Seq.{paste, paste-zero}
-use Rattle.columns.specs.Column.{column}
+use lib.Seq.{paste-zero}
+use Rattle.columns.specs.Column.{largestNumber, put}
 use Rattle.sheet.specs.Line.{columns}
 use Rattle.sheet.proofs.RangeLaws.{inRange-at}
 use Rattle.sheet.proofs.PutLaws.{columns-long, column-put}
-use Rattle.report.specs.Lines.{put}
 use Rattle.report.proofs.Filling.{line-put}
 use Rattle.report.proofs.fill_line.Statement.{statement}
 use Rattle.report.proofs.fill_line.Tie as tie
@@ -40,33 +39,38 @@ long l =
     ∙ columns-long (now (s .args .numbers)) (lettered l) (s .args .at) (l .loop .c) (l .loop .inv .0) (omega (arith, s .pre .1, l .loop .inv .0))
     ∙ e
 
+in-range : (l : tie.At-loop Inv-loop μ-loop) → l .loop .c < length (now (start l .args .numbers)) → getD (now (start l .args .numbers)) (l .loop .c) 0 ≤ largestNumber
+in-range l = inRange-at (now (start l .args .numbers)) (l .loop .c) (start l .pre .0)
+
 slice-write-text : tie.Need-slice-write-text Inv-loop μ-loop
 slice-write-text c = search needs
 
 loop-holds : tie.Need-loop-holds Inv-loop μ-loop
 loop-holds c = (omega arith, paste-zero _ (c .before .before .args .at + 1) [])
 
-mul-put-column : tie.Need-mul-put-column Inv-loop μ-loop
-mul-put-column c = search needs
+mul-put : tie.Need-mul-put Inv-loop μ-loop
+mul-put c = search needs
 
-add-put-column : tie.Need-add-put-column Inv-loop μ-loop
-add-put-column c = search needs
+add-put : tie.Need-add-put Inv-loop μ-loop
+add-put c = search needs
 
-add-put-column-2 : tie.Need-add-put-column-2 Inv-loop μ-loop
-add-put-column-2 c = search needs
+add-put-2 : tie.Need-add-put-2 Inv-loop μ-loop
+add-put-2 c = search needs
 
-mul-put-column-2 : tie.Need-mul-put-column-2 Inv-loop μ-loop
-mul-put-column-2 c = search needs
+mul-put-2 : tie.Need-mul-put-2 Inv-loop μ-loop
+mul-put-2 c = search needs
 
-shared-slice-read-put-column : tie.Need-shared-slice-read-put-column Inv-loop μ-loop
-shared-slice-read-put-column c = search needs
+shared-slice-read-put : tie.Need-shared-slice-read-put Inv-loop μ-loop
+shared-slice-read-put c = search needs
 
-put-column-requires : tie.Need-put-column-requires Inv-loop μ-loop
-put-column-requires c κs =
+cast-put : tie.Need-cast-put Inv-loop μ-loop
+cast-put c =
     let l = c .before .before .before in
-    let e = long l in
-    let s = start l in
-    (inRange-at (now (s .args .numbers)) (l .loop .c) (s .pre .0) (search needs), omega (arith, s .pre .1))
+    let h = in-range l (search needs) in
+    search needs
+
+put-requires : tie.Need-put-requires Inv-loop μ-loop
+put-requires c κs = search needs
 
 add-c : tie.Need-add-c Inv-loop μ-loop
 add-c c = search needs
@@ -80,9 +84,8 @@ loop-again c =
     let s = start l in
     let e = begun l in (
       omega arith,
-      c .before .before .put-column .ensures
-          ∙ ap (λ (t : List ℕ). paste t (s .args .at + 9 * l .loop .c + 1) (column (getD (now (s .args .numbers)) (l .loop .c) 0)) 9) (l .loop .inv .1)
-          ∙ column-put (now (s .args .numbers)) (lettered l) (s .args .at) (l .loop .c) (search needs) (omega (arith, s .pre .1)),
+      c .before .before .put .ensures
+          ∙ column-put (now (s .args .numbers)) (lettered l) (s .args .at) (l .loop .c) (search needs) (omega (arith, s .pre .1)) (in-range l (search needs)) (l .loop .inv .1),
     )
 
 mul-text : tie.Need-mul-text Inv-loop μ-loop
@@ -118,12 +121,13 @@ fill-line-spec =
     μ-loop
     slice-write-text
     loop-holds
-    mul-put-column
-    add-put-column
-    add-put-column-2
-    mul-put-column-2
-    shared-slice-read-put-column
-    put-column-requires
+    mul-put
+    add-put
+    add-put-2
+    mul-put-2
+    shared-slice-read-put
+    cast-put
+    put-requires
     add-c
     loop-less
     loop-again

@@ -7,7 +7,8 @@ use borrow.Author.Needs.{needs}
 use denote.Ref.{now}
 use lib.ListN.{length}
 use lib.Seq.{paste-zero}
-use Rattle.report.specs.Lines.{lineText, put}
+use Rattle.columns.specs.Column.{put}
+use Rattle.report.specs.Lines.{lineText}
 use Rattle.report.specs.Report.{letterS, stepLines}
 use Rattle.report.proofs.Filling.{step-put}
 use Rattle.report.proofs.fill_steps.Statement.{statement}

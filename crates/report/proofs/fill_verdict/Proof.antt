@@ -9,7 +9,8 @@ use lib.ListN.{length}
 use Rattle.sheet.specs.Line.{inRange}
 use Rattle.chase.specs.Judge.{judged}
 use Rattle.judging.specs.Answer.{verdictOf}
-use Rattle.report.specs.Lines.{lineText, put}
+use Rattle.columns.specs.Column.{put}
+use Rattle.report.specs.Lines.{lineText}
 use Rattle.report.specs.Report.{letterV, stepLines, judgementText}
 use Rattle.report.proofs.Filling.{verdict-put, length-judged}
 use Rattle.report.proofs.fill_verdict.Statement.{statement}

@@ -3,9 +3,9 @@ use mathlib.Core.Path.{_≡_}
 use mathlib.Core.List.{List}
 use Prim.Native.Nat.{ℕ, _≤_}
 use lib.ListN.{length}
+use Rattle.columns.specs.Column.{put}
 use Rattle.sheet.specs.Line.{Line, lentOf}
 use Rattle.sheet.specs.Sheet.{IsSheet}
-use Rattle.report.specs.Lines.{put}
 use Rattle.report.specs.Report.{lineLimit}
 
 -- Lent numbers hold the lines of a sheet, as many as the longest text can have.

@@ -1,22 +1,21 @@
 -- `followup::bytes::encode_u16` meets its contract. The loop's invariant: the bytes of the first i numbers stand at the front. Assumes nothing.
-use mathlib.Core.Path.{_≡_, subst}
-use Prim.Native.Nat.{suc, _+_, _-_, _*_, _≤_}
+use Prim.Native.Nat.{_-_, _*_}
 use native.Mathlib.Omega.{arith}
+use native.Mathlib.Numerals.{add-one}
 use borrow.Author.Needs.{needs}
-use denote.Ref.{now}
-use Rattle.followup.proofs.ByteLaws.{filled-none, Encoded, encoded-more, encoded-all}
 use lib.ListN.{length-set}
+use Rattle.followup.proofs.ByteLaws.{Encoding, encoding-begun, encoding-more, encoding-done}
 use Rattle.followup.proofs.bytes.encode_u16.Statement.{statement}
 use Rattle.followup.proofs.bytes.encode_u16.Tie as tie
 
 abbrev Inv-loop : tie.InvT-loop
-Inv-loop numbers bytes₀ n i₀ bytes i = (i ≤ n) × Encoded 2 numbers bytes₀ bytes i
+Inv-loop numbers bytes₀ n i₀ bytes i = Encoding 2 numbers bytes₀ n bytes i
 
 abbrev μ-loop : tie.MeasureT-loop
 μ-loop numbers bytes₀ n i₀ bytes i = n - i
 
 loop-holds : tie.Need-loop-holds Inv-loop μ-loop
-loop-holds c = (omega arith, filled-none _)
+loop-holds c = encoding-begun (search needs) (search needs)
 
 mul-v : tie.Need-mul-v Inv-loop μ-loop
 mul-v c = search needs
@@ -52,20 +51,13 @@ loop-again : tie.Need-loop-again Inv-loop μ-loop
 loop-again c =
     let loop = c .before .before .loop in
     let at = 2 * loop .i in
-    let one : at + 1 ≡ suc at = omega arith in
-    (omega arith, rw one (encoded-more 2 _ _ _ _ (omega arith) (omega arith) (loop .inv .1)))
+    rw (add-one at) (encoding-more (search needs) (loop .inv))
 
 same-length : tie.Need-same-length Inv-loop μ-loop
 same-length c = search needs
 
 returns : tie.Need-returns Inv-loop μ-loop
-returns c =
-    let start = c .before .before .args in
-    let numbers = now (start .numbers) in
-    let before = now (start .bytes) in
-    let after = c .before .loop .bytes in
-    let e : c .before .loop .i ≡ start .n = omega arith in
-    encoded-all 2 numbers before after (start .n) (search needs) (subst (Encoded 2 numbers before after) e (c .before .loop .inv .1))
+returns c = encoding-done (search needs) (c .before .loop .inv)
 
 pub encode-u16-spec : {M : Type 1} → statement M
 encode-u16-spec =

@@ -1,23 +1,21 @@
 -- `followup::bytes::encode_u32` meets its contract. The loop's invariant: the bytes of the first i numbers stand at the front. Assumes nothing.
-use mathlib.Core.Path.{_≡_, sym, subst, ap, _∙_}
-use Prim.Native.Nat.{suc, _+_, _-_, _*_, _/_, _≤_}
+use Prim.Native.Nat.{_-_, _*_}
 use native.Mathlib.Omega.{arith}
+use native.Mathlib.Numerals.{add-one, add-two, add-three}
 use borrow.Author.Needs.{needs}
-use native.Mathlib.Nat.{div-div-eq-div-mul}
-use denote.Ref.{now}
-use Rattle.followup.proofs.ByteLaws.{filled-none, Encoded, encoded-more, encoded-all}
-use lib.ListN.{getD, length-set}
+use lib.ListN.{length-set}
+use Rattle.followup.proofs.ByteLaws.{Encoding, encoding-begun, encoding-more, encoding-done, third-byte, fourth-byte}
 use Rattle.followup.proofs.bytes.encode_u32.Statement.{statement}
 use Rattle.followup.proofs.bytes.encode_u32.Tie as tie
 
 abbrev Inv-loop : tie.InvT-loop
-Inv-loop numbers bytes₀ n i₀ bytes i = (i ≤ n) × Encoded 4 numbers bytes₀ bytes i
+Inv-loop numbers bytes₀ n i₀ bytes i = Encoding 4 numbers bytes₀ n bytes i
 
 abbrev μ-loop : tie.MeasureT-loop
 μ-loop numbers bytes₀ n i₀ bytes i = n - i
 
 loop-holds : tie.Need-loop-holds Inv-loop μ-loop
-loop-holds c = (omega arith, filled-none _)
+loop-holds c = encoding-begun (search needs) (search needs)
 
 mul-v : tie.Need-mul-v Inv-loop μ-loop
 mul-v c = search needs
@@ -71,25 +69,13 @@ loop-again : tie.Need-loop-again Inv-loop μ-loop
 loop-again c =
     let loop = c .before .before .loop in
     let at = 4 * loop .i in
-    let v = getD (now (c .before .before .before .args .numbers)) (loop .i) 0 in
-    let one : at + 1 ≡ suc at = omega arith in
-    let two : at + 2 ≡ suc (suc at) = omega arith in
-    let three : at + 3 ≡ suc (suc (suc at)) = omega arith in
-    let third : v / 65536 ≡ v / 256 / 256 = sym (div-div-eq-div-mul v 256 256) in
-    let fourth : v / 16777216 ≡ v / 256 / 256 / 256 = sym (ap (λ k. k / 256) (div-div-eq-div-mul v 256 256) ∙ div-div-eq-div-mul v 65536 256) in
-    (omega arith, rw (one, two, three, third, fourth) (encoded-more 4 _ _ _ _ (omega arith) (omega arith) (loop .inv .1)))
+    rw (add-one at, add-two at, add-three at, third-byte, fourth-byte) (encoding-more (search needs) (loop .inv))
 
 same-length : tie.Need-same-length Inv-loop μ-loop
 same-length c = search needs
 
 returns : tie.Need-returns Inv-loop μ-loop
-returns c =
-    let start = c .before .before .args in
-    let numbers = now (start .numbers) in
-    let before = now (start .bytes) in
-    let after = c .before .loop .bytes in
-    let e : c .before .loop .i ≡ start .n = omega arith in
-    encoded-all 4 numbers before after (start .n) (search needs) (subst (Encoded 4 numbers before after) e (c .before .loop .inv .1))
+returns c = encoding-done (search needs) (c .before .loop .inv)
 
 pub encode-u32-spec : {M : Type 1} → statement M
 encode-u32-spec =

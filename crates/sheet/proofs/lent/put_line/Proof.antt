@@ -8,11 +8,11 @@ use borrow.Kind.Array.{good-length, eInt}
 use denote.Ref.{now}
 use mir.Syntax.{w32}
 use lib.ListN.{length, getD, set, take, drop, length-set}
-use lib.Seq.{paste, paste-zero}
-use Rattle.columns.specs.Column.{column}
+use lib.Seq.{paste-zero}
+use Rattle.columns.specs.Column.{put}
 use Rattle.sheet.specs.Line.{columns}
 use Rattle.sheet.proofs.RangeLaws.{number-fits}
-use Rattle.sheet.proofs.PutLaws.{put, lent-columns-long, lent-column-put, line-put}
+use Rattle.sheet.proofs.PutLaws.{lent-columns-long, lent-column-put, line-put}
 use Rattle.sheet.proofs.lent.put_line.Statement.{statement}
 use Rattle.sheet.proofs.lent.put_line.Tie as tie
 
@@ -26,9 +26,10 @@ eight : (l : tie.At-loop Inv-loop μ-loop) → length (l .before .before .args .
 eight l = good-length (eInt w32) 8 (l .before .before .args .t3) _ (l .before .before .good .1 .1 .0)
 
 -- The text with its letter, where the columns begin.
-begun :
-    (l : tie.At-loop Inv-loop μ-loop)
-    → length (set (now (l .before .before .args .text)) (l .before .before .args .at) (getD (l .before .before .args .t3) 0 0)) ≡ length (now (l .before .before .args .text))
+abbrev lettered : tie.At-loop Inv-loop μ-loop → List ℕ
+lettered l = set (now (l .before .before .args .text)) (l .before .before .args .at) (getD (l .before .before .args .t3) 0 0)
+
+begun : (l : tie.At-loop Inv-loop μ-loop) → length (lettered l) ≡ length (now (l .before .before .args .text))
 begun l = length-set (now (l .before .before .args .text)) (l .before .before .args .at) (getD (l .before .before .args .t3) 0 0)
 
 long : (l : tie.At-loop Inv-loop μ-loop) → length (l .loop .text) ≡ length (now (l .before .before .args .text))
@@ -36,7 +37,7 @@ long l =
     let s = l .before .before in
     let e = begun l in
     ap length (l .loop .inv .1)
-    ∙ lent-columns-long (s .args .t3) (eight l) (set (now (s .args .text)) (s .args .at) (getD (s .args .t3) 0 0)) (s .args .at) (s .args .fields) (s .pre .0) (omega arith)
+    ∙ lent-columns-long (s .args .t3) (eight l) (lettered l) (s .args .at) (s .args .fields) (s .pre .0) (omega arith)
     (l .loop .c) (l .loop .inv .0)
     ∙ e
 
@@ -55,30 +56,26 @@ loop-holds c = (omega arith, paste-zero _ (c .before .args .at + 1) [])
 add-loop : tie.Need-add-loop Inv-loop μ-loop
 add-loop c = search needs
 
-mul-put-column : tie.Need-mul-put-column Inv-loop μ-loop
-mul-put-column c = search needs
+mul-put : tie.Need-mul-put Inv-loop μ-loop
+mul-put c = search needs
 
-add-put-column : tie.Need-add-put-column Inv-loop μ-loop
-add-put-column c = search needs
+add-put : tie.Need-add-put Inv-loop μ-loop
+add-put c = search needs
 
-add-put-column-2 : tie.Need-add-put-column-2 Inv-loop μ-loop
-add-put-column-2 c = search needs
+add-put-2 : tie.Need-add-put-2 Inv-loop μ-loop
+add-put-2 c = search needs
 
-add-put-column-3 : tie.Need-add-put-column-3 Inv-loop μ-loop
-add-put-column-3 c = search needs
+add-put-3 : tie.Need-add-put-3 Inv-loop μ-loop
+add-put-3 c = search needs
 
-mul-put-column-2 : tie.Need-mul-put-column-2 Inv-loop μ-loop
-mul-put-column-2 c = search needs
+mul-put-2 : tie.Need-mul-put-2 Inv-loop μ-loop
+mul-put-2 c = search needs
 
-array-read-put-column : tie.Need-array-read-put-column Inv-loop μ-loop
-array-read-put-column c = search needs
+array-read-put : tie.Need-array-read-put Inv-loop μ-loop
+array-read-put c = search needs
 
-put-column-requires : tie.Need-put-column-requires Inv-loop μ-loop
-put-column-requires c κs =
-    let l = c .before .before in
-    let s = l .before .before in
-    let e = long l in
-    (omega arith, number-fits (s .args .t3) (s .args .fields) (eight l) (s .pre .0) (s .pre .3) (l .loop .c) (c .before .loop-test .taken))
+put-requires : tie.Need-put-requires Inv-loop μ-loop
+put-requires c κs = search needs
 
 add-c : tie.Need-add-c Inv-loop μ-loop
 add-c c = search needs
@@ -90,12 +87,12 @@ loop-again : tie.Need-loop-again Inv-loop μ-loop
 loop-again c =
     let l = c .before .before .before .before .before in
     let s = l .before .before in
-    let e = begun l in (
+    let e = begun l in
+    let more = c .before .before .before .before .loop-test .taken in (
       omega arith,
-      c .before .before .put-column .ensures
-          ∙ ap (λ (t : List ℕ). paste t (s .args .at + 9 * l .loop .c + 1) (column (getD (s .args .t3) (l .loop .c + 1) 0)) 9) (l .loop .inv .1)
-          ∙ lent-column-put (s .args .t3) (eight l) (set (now (s .args .text)) (s .args .at) (getD (s .args .t3) 0 0)) (s .args .at) (s .args .fields) (s .pre .0) (omega arith)
-          (l .loop .c) (c .before .before .before .before .loop-test .taken),
+      c .before .before .put .ensures
+          ∙ lent-column-put (s .args .t3) (eight l) (lettered l) (s .args .at) (s .args .fields) (s .pre .0) (omega arith)
+          (l .loop .c) more (number-fits (s .args .t3) (s .args .fields) (eight l) (s .pre .0) (s .pre .3) (l .loop .c) more) (l .loop .inv .1),
     )
 
 mul-text : tie.Need-mul-text Inv-loop μ-loop
@@ -120,7 +117,7 @@ returns c =
     let e : l .loop .c ≡ s .args .fields + 1 = omega arith in
     ap (λ (t : List ℕ). set t (s .args .at + 9 * s .args .fields + 10) 10)
     (l .loop .inv .1
-    ∙ ap (λ (k : ℕ). put (set (now (s .args .text)) (s .args .at) (getD (s .args .t3) 0 0)) (s .args .at + 1) (columns (take k (drop 1 (s .args .t3))))) e)
+    ∙ ap (λ (k : ℕ). put (lettered l) (s .args .at + 1) (columns (take k (drop 1 (s .args .t3))))) e)
     ∙ line-put (s .args .t3) (eight l) (now (s .args .text)) (s .args .at) (s .args .fields) (s .pre .0) (s .pre .1)
 
 pub put-line-spec : {M : Type 1} → statement M
@@ -134,13 +131,13 @@ put-line-spec =
     slice-write-text
     loop-holds
     add-loop
-    mul-put-column
-    add-put-column
-    add-put-column-2
-    add-put-column-3
-    mul-put-column-2
-    array-read-put-column
-    put-column-requires
+    mul-put
+    add-put
+    add-put-2
+    add-put-3
+    mul-put-2
+    array-read-put
+    put-requires
     add-c
     loop-less
     loop-again
