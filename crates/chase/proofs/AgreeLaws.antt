@@ -1,7 +1,6 @@
 -- Fields agree with marks just if there are as many and they are equal wherever the marks are. Assumes nothing.
 use mathlib.Core.Path.{_≡_, refl, sym, subst}
-use mathlib.Core.Bool.{false≢true}
-use mathlib.Core.List.{List, [], _∷_, map}
+use mathlib.Core.List.{List, [], _∷_}
 use mathlib.Core.Option.{Option, none, some, Option·none-ne-some}
 use Prim.Native.Nat.{ℕ, suc}
 use native.Mathlib.Decide.{ℕ-discrete}
@@ -11,22 +10,9 @@ use Rattle.patterns.specs.Pattern.{pick}
 use Rattle.chase.specs.Lists.{All2}
 use Rattle.chase.specs.Rules.{nth}
 use Rattle.chase.specs.Making.{valueOf, Agree}
+use Rattle.chase.proofs.ListLaws.{maps-each, each-maps}
 use Rattle.chase.proofs.MakingLaws.{OptR, mark-has-value}
 use Rattle.chase.proofs.StepLaws.{nth-in, nth-rel}
-
--- Two mapped lists are equal just if they are so place by place.
-module _ {A B C : Type 0} (f : A → C) (g : B → C) where
-  maps-each : (xs : List A) (ys : List B) → map f xs ≡ map g ys → All2 (λ x y. f x ≡ g y) xs ys
-  maps-each [] [] e = tt
-  maps-each [] (y ∷ ys) e = false≢true cc
-  maps-each (x ∷ xs) [] e = false≢true cc
-  maps-each (x ∷ xs) (y ∷ ys) e = (cc, maps-each xs ys cc)
-
-  each-maps : (xs : List A) (ys : List B) → All2 (λ x y. f x ≡ g y) xs ys → map f xs ≡ map g ys
-  each-maps [] [] a = refl
-  each-maps [] (y ∷ ys) a = absurd a
-  each-maps (x ∷ xs) [] a = absurd a
-  each-maps (x ∷ xs) (y ∷ ys) a = cc (a .0, each-maps xs ys (a .1))
 
 -- What holds of the elements at each place holds place by place.
 places-each : {A B : Type 0} (R : A → B → Type 0) (xs : List A) (ys : List B) → length xs ≡ length ys

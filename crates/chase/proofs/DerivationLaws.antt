@@ -14,12 +14,12 @@ use Rattle.chase.specs.Run.{Firing, Reachable}
 use Rattle.chase.specs.Homomorphism.{Substitution, image, body}
 use Rattle.chase.specs.Chase.{Instance, Trigger, Active, Begins, FiniteDerivation, FairDerivation}
 use Rattle.chase.specs.Judge.{Bounded, Unbounded}
-use Rattle.chase.proofs.ListLaws.{nth-one}
+use Rattle.chase.proofs.ListLaws.{nth-one, in-place}
 use Rattle.chase.proofs.CertificateLaws.{not-both}
 use Rattle.chase.proofs.FiniteLaws.{finite-bounded}
 use Rattle.chase.proofs.PublishedLaws.{reachable-finite}
 use Rattle.chase.proofs.SequenceLaws.{listed, no-longer, of-finite}
-use Rattle.chase.proofs.QueueLaws.{On, Done, done-result, in-place, Closed, Next, states, states-begin, states-law, closed-ends, closed-has}
+use Rattle.chase.proofs.QueueLaws.{On, Done, done-result, Closed, Next, states, states-begin, states-law, closed-ends, closed-has}
 
 module _ (rules : List Rule) (rows : List Record) where
   -- The derivation by a queue.

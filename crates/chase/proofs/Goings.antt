@@ -1,5 +1,5 @@
 -- All steps that go from a record, listed: each rule that fires on it with each of its H lines; then the reaching steps, and the carried and fresh ones. Assumes nothing.
-use mathlib.Core.Path.{_≡_, refl, sym, ap}
+use mathlib.Core.Path.{_≡_, refl, ap}
 use mathlib.Core.Logic.{_⊎_, inl, inr}
 use mathlib.Core.List.{List, [], _∷_, _++_, map}
 use mathlib.Core.Option.{some, Option·none-ne-some}
@@ -11,7 +11,7 @@ use Rattle.chase.specs.Rules.{Head, Rule, nth}
 use Rattle.chase.specs.Value.{Value, Value-discrete}
 use Rattle.chase.specs.Making.{Record, Fires, fires?, valueOf, carriedValues}
 use Rattle.chase.specs.Steps.{Step, Goes, Reaching, Moves}
-use Rattle.chase.proofs.ListLaws.{in-left, in-right, in-append, in-map, map-in}
+use Rattle.chase.proofs.ListLaws.{in-left, in-right, in-append, in-map, map-in, in-place}
 use Rattle.chase.proofs.StepLaws.{carried-value, mark-stands}
 
 -- The elements of a list with their numbers, which count from 1.
@@ -46,11 +46,9 @@ module _ {A : Type 0} where
 
   -- An element has a number.
   pub in-nth : (l : List A) (x : A) → In x l → (n : ℕ) × (nth l n ≡ some x)
-  in-nth [] x i = absurd i
-  in-nth (y ∷ l) x (inl e) = (1, ap some (sym e))
-  in-nth (y ∷ l) x (inr i) =
-      let s = in-nth l x i in
-      (suc (s .0), later y l (s .0) x (s .1))
+  in-nth l x i =
+      let s = in-place x l i in
+      (suc (s .0), s .1)
 
 -- What each element gives.
 module _ {A B : Type 0} (f : A → List B) where

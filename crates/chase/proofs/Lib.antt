@@ -12,6 +12,7 @@ pub mod LineLaws
 pub mod LoopLaws
 pub mod CertificateLaws
 pub mod CountLaws
+pub mod CodedLaws
 pub mod AgreeLaws
 pub mod FiniteLaws
 pub mod SequenceLaws

@@ -14,18 +14,13 @@ use Rattle.chase.specs.Making.{Record, Record-discrete, Fires, fires?, m
 use Rattle.chase.specs.Run.{Firing, Reachable, row, madeFrom}
 use Rattle.chase.specs.Homomorphism.{Substitution}
 use Rattle.chase.specs.Chase.{Instance, Trigger, Result, Active, Applied}
-use Rattle.chase.proofs.ListLaws.{nth-one, all-or-not, in-left, in-right, in-append, in-map, map-in, in-addAll}
+use Rattle.chase.proofs.ListLaws.{nth-one, all-or-not, in-left, in-right, in-append, in-map, map-in, in-addAll, in-place}
 use Rattle.chase.proofs.StepLaws.{element-in}
 use Rattle.chase.proofs.CountLaws.{numbersTo, nth-number}
 use Rattle.chase.proofs.HomomorphismLaws.{givenBy}
 use Rattle.chase.proofs.PublishedLaws.{onRecord, trigger-fires, trigger-made, firing-trigger, firing-made}
 
 -- Places in a list.
-pub in-place : {A : Type 0} (x : A) (l : List A) → In x l → (k : ℕ) × (getElem? l k ≡ some x)
-in-place x [] i = absurd i
-in-place x (y ∷ l) (inl p) = (0, ap some (sym p))
-in-place x (y ∷ l) (inr i) = let (k, e) = in-place x l i in (suc k, e)
-
 place-left : {A : Type 0} (l more : List A) (k : ℕ) (x : A) → getElem? l k ≡ some x → getElem? (l ++ more) k ≡ some x
 place-left [] more k x e = absurd (Option·none-ne-some x e)
 place-left (y ∷ l) more zero x e = e

@@ -1,6 +1,5 @@
 -- Laws of steps: what a step asks of a record depends on the record's shape alone; the firings that steps stand for fit; the number that carried and fresh steps follow gets a later generation with each fresh one. Assumes nothing.
 use mathlib.Core.Path.{_≡_, refl, sym, _∙_, ap, subst}
-use mathlib.Core.Bool.{false≢true}
 use mathlib.Core.Logic.{_⊎_, inl, inr}
 use mathlib.Core.List.{List, [], _∷_, _++_, map}
 use mathlib.Core.Option.{Option, none, some, Option·none-ne-some}
@@ -16,7 +15,8 @@ use Rattle.chase.specs.Run.{Firing, fire, run, Fits, AllFit}
 use Rattle.chase.specs.Shape.{Shape, shapeOf}
 use Rattle.chase.specs.Steps.{Step, stepNumbers, after, Each, lastOf, firedOn, firingsOf, Goes, Reaching, Carried, Fresh, FreshAlone, Moves, Follow, lastTo, lastFresh, valueAt, placesOf}
 use Rattle.chase.specs.Certificate.{asRecord, shapeAfter, EachShape, lastShape, shapesOn, placesOn, freshSteps}
-use Rattle.chase.proofs.MakingLaws.{OptR, valueOf-rel, valueOf-in-marks, agree-has-value, no-mark-no-value, in-carriedValues, carriedValues-in}
+use Rattle.chase.proofs.ListLaws.{maps-each}
+use Rattle.chase.proofs.MakingLaws.{OptR, valueOf-rel, map-value, valueOf-in-marks, agree-has-value, no-mark-no-value, in-carriedValues, carriedValues-in}
 use Rattle.chase.proofs.Generations.{generation-below}
 use Rattle.chase.proofs.ShapeLaws.{shape-as-record, fires-shape, made-shape}
 use Rattle.chase.proofs.RunLaws.{fire-adds}
@@ -69,12 +69,6 @@ module _ {A B : Type 0} (R : A → B → Type 0) where
   rel-some (some z) none x r e = absurd r
   rel-some (some z) (some y) x r e = let q : z ≡ x = cc in (y, refl, subst (λ (w : A). R w y) q r)
 
-same-maps : {A B C : Type 0} (f : A → C) (g : B → C) (xs : List A) (ys : List B) → map f xs ≡ map g ys → All2 (λ x y. f x ≡ g y) xs ys
-same-maps f g [] [] e = tt
-same-maps f g [] (y ∷ ys) e = false≢true cc
-same-maps f g (x ∷ xs) [] e = false≢true cc
-same-maps f g (x ∷ xs) (y ∷ ys) e = (cc, same-maps f g xs ys cc)
-
 -- In two records of one shape the same fields and marks have equal values.
 module _ (x y : Record) (same : shapeOf x ≡ shapeOf y) where
   -- A value of the one and a value of the other with the same digit.
@@ -83,7 +77,7 @@ module _ (x y : Record) (same : shapeOf x ≡ shapeOf y) where
 
   fields-twins : All2 Twins (x .fields) (y .fields)
   fields-twins =
-      same-maps (digit Value-discrete (x .fields)) (digit Value-discrete (y .fields)) (x .fields) (y .fields)
+      maps-each (digit Value-discrete (x .fields)) (digit Value-discrete (y .fields)) (x .fields) (y .fields)
       (ap (λ (s : Shape). s .pattern) same)
 
   -- If a field's value is a mark's in the one, it is so in the other.
@@ -188,21 +182,11 @@ moves-goes rules st x (inl c) = c .goes
 moves-goes rules st x (inr f) = f .goes
 
 -- Steps on a shape, by its digits.
-table-digits : (digits : List ℕ) → All2 (λ k v. v ≡ table k) digits (map table digits)
-table-digits [] = tt
-table-digits (k ∷ ks) = (refl, table-digits ks)
-
-valueOf-table : (marks digits : List ℕ) (m k : ℕ) → valueOf marks digits m ≡ some k → valueOf marks (map table digits) m ≡ some (table k)
-valueOf-table marks digits m k e =
-    let R : ℕ → Value → Type 0 = λ k v. v ≡ table k in
-    let s = rel-some R (valueOf marks digits m) (valueOf marks (map table digits) m) k (valueOf-rel R marks digits (map table digits) m (table-digits digits)) e in
-    s .1 ∙ ap some (s .2)
-
 module _ (rules : List Rule) (st : Step) (s : Shape) (g : Goes rules st (asRecord s)) (m k : ℕ) (to : nth (g .head .marks) (st .to) ≡ some m)
     (from : nth (s .pattern) (st .from) ≡ some k) where
   pub carried-on-shape : st .fresh ≡ 0 → valueOf (g .rule .marks) (s .pattern) m ≡ some k → Carried rules st (asRecord s)
   carried-on-shape f e =
-      let v = valueOf-table (g .rule .marks) (s .pattern) m k e in
+      let v = map-value table (g .rule .marks) (s .pattern) m k e in
       record {
         goes = g;
         fresh = f;
@@ -227,7 +211,7 @@ module _ (rules : List Rule) (st : Step) (s : Shape) (g : Goes rules st (asRecor
         from = nth-map table (s .pattern) (st .from) k from;
         among =
             in-carriedValues (g .rule) (asRecord s .fields) (c .0) (table k) (c .1)
-            (valueOf-table (g .rule .marks) (s .pattern) (c .0) k (c .2));
+            (map-value table (g .rule .marks) (s .pattern) (c .0) k (c .2));
       }
 
 -- What asks that the step goes, and depends on the shape alone.

@@ -1,4 +1,4 @@
--- What a sheet means: the definitions that the judge's contract cites, in the order in which document 01 speaks.
+-- What a sheet means: the definitions that the judge's contract cites, in the order in which document 01 speaks. `inner` has what the judge computes with.
 pub mod Lists
 pub mod Rules
 pub mod Value
@@ -13,3 +13,4 @@ pub mod Chase
 pub mod Simplification
 pub mod Certificate
 pub mod Cases
+pub mod inner

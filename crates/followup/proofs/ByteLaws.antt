@@ -1,7 +1,7 @@
 -- A list filled from the front, and numbers of any width as bytes. Assumes nothing.
 use mathlib.Core.Path.{_≡_, refl, sym, ap, _∙_}
 use mathlib.Core.List.{List, [], _∷_, _++_, append-assoc, append-nil}
-use Prim.Native.Nat.{ℕ, zero, suc, _+_, _*_, _/_, _<_, _≤_}
+use Prim.Native.Nat.{ℕ, zero, suc, _+_, _*_, _/_, _%_, _<_, _≤_}
 use native.Mathlib.Nat.{mul-suc, mul-zero, mul-le-mul-left, div-div-eq-div-mul}
 use native.Mathlib.Numerals.{add-one}
 use native.Mathlib.Omega.{arith}
@@ -107,9 +107,9 @@ module _ {w : ℕ} {numbers before : List ℕ} {n : ℕ} where
 
   -- One number more.
   pub encoding-more :
-      {after : List ℕ} {i : ℕ} → i < n → Encoding w numbers before n after i
-      → Encoding w numbers before n (sets after (w * i) (bytesOf w (getD numbers i 0))) (i + 1)
-  encoding-more {after} {i} h e =
+      {after : List ℕ} {i : ℕ} {bytes : List ℕ} → bytes ≡ bytesOf w (getD numbers i 0) → i < n → Encoding w numbers before n after i
+      → Encoding w numbers before n (sets after (w * i) bytes) (i + 1)
+  encoding-more {after} {i} {bytes} is h e =
       let v = getD numbers i 0 in
       let front = take i numbers in
       let below : w * suc i ≤ w * n = mul-le-mul-left w (omega arith) in
@@ -117,7 +117,7 @@ module _ {w : ℕ} {numbers before : List ℕ} {n : ℕ} where
       rw (add-one i, take-suc numbers i 0 (omega arith), allBytes-append w front (v ∷ []), append-nil (bytesOf w v)) in
       let fits : w * i + length (bytesOf w v) ≤ length before = omega (arith, length-bytesOf w v, mul-suc w i) in
       let filled = filled-more (bytesOf w v) (w * i) (length-encoded w i numbers (omega arith)) fits (e .filled) in
-      record { upto = omega arith; lent = e .lent; room = e .room; filled = rw one filled }
+      record { upto = omega arith; lent = e .lent; room = e .room; filled = rw (one, is) filled }
 
   -- All of them.
   pub encoding-done : {after : List ℕ} {i : ℕ} → n ≤ i → Encoding w numbers before n after i → after ≡ allBytes w (take n numbers) ++ drop (w * n) before
@@ -125,9 +125,8 @@ module _ {w : ℕ} {numbers before : List ℕ} {n : ℕ} where
       let all : i ≡ n = omega arith in
       e .filled .same ∙ rw (all, length-encoded w n numbers (e .lent))
 
--- The third and the fourth byte of a number, by one division.
-pub third-byte : (v : ℕ) → v / 65536 ≡ v / 256 / 256
-third-byte v = sym (div-div-eq-div-mul v 256 256)
-
-pub fourth-byte : (v : ℕ) → v / 16777216 ≡ v / 256 / 256 / 256
-fourth-byte v = sym (div-div-eq-div-mul v 65536 256) ∙ ap (λ k. k / 256) (third-byte v)
+-- The bytes of a number that has four, each by one division.
+pub four-bytes : (v : ℕ) → v % 256 ∷ v / 256 % 256 ∷ v / 65536 % 256 ∷ v / 16777216 % 256 ∷ [] ≡ bytesOf 4 v
+four-bytes v =
+    let third : v / 65536 ≡ v / 256 / 256 = sym (div-div-eq-div-mul v 256 256) in
+    rw (third, sym (div-div-eq-div-mul v 65536 256), third)

@@ -5,58 +5,36 @@ use mathlib.Core.Logic.{inl, inr}
 use mathlib.Core.List.{List, [], _∷_, map}
 use mathlib.Core.Option.{some}
 use Prim.Native.Nat.{ℕ, zero, suc, _+_, _<_}
-use native.Mathlib.Decide.{ℕ-discrete}
 use native.Mathlib.Omega.{arith}
 use lib.Dec.{eqb}
 use lib.ListN.{length, getD, length-map}
 use borrow.Author.Tests.{eqb-true, eq-eqb}
 use Rattle.chase.specs.Lists.{In}
 use Rattle.chase.specs.Rules.{Rule, nth}
-use Rattle.chase.specs.Value.{table, Value-discrete}
-use Rattle.chase.specs.Making.{Record, Fires}
+use Rattle.chase.specs.Making.{Record}
 use Rattle.chase.specs.Run.{Reachable, row, madeFrom}
 use Rattle.chase.specs.Shape.{Shape, shapeOf, Reached, Fired}
 use Rattle.chase.specs.Simplification.{Applies, Derived}
 use Rattle.chase.specs.Counting.{NoTwo, Count, MoreThan}
-use Rattle.chase.specs.Certificate.{asRecord}
 use Rattle.chase.proofs.ListLaws.{in-map, map-in}
 use Rattle.chase.proofs.StepLaws.{nth-in}
-use Rattle.chase.proofs.ShapeLaws.{pattern-map, fires-applies, applies-fires, made-digits, derived-reached}
-use Rattle.judging.specs.inner.Codes.{ShapeFits, shapeFrom}
-use Rattle.judging.specs.inner.Found.{shapeNo, Has, Via, viaRow, viaRule, Kept, Whole, FiredMarks, onesIn}
-use Rattle.judging.proofs.PatternPlaces.{shapeAt-one}
+use Rattle.chase.proofs.CodedLaws.{fires-applies, applies-fires, made-digits, derived-reached, reached-coded}
+use Rattle.judging.specs.inner.Codes.{shapeFrom}
+use Rattle.judging.specs.inner.Found.{shapeNo, Has, Via, viaRow, viaRule, Kept, Whole, FiredRules, onesIn}
+use Rattle.judging.proofs.FoundLaws.{same-place}
 use Rattle.judging.proofs.Places.{below, below-length, below-in, in-below, noTwo-below, nth-below}
 
--- A shape of a sheet is that of its own record.
-pub fits-as-record : (s : Shape) → ShapeFits s → shapeOf (asRecord s) ≡ s
-fits-as-record s f =
-    ap (λ (p : List ℕ). record { kind = s .kind; pattern = p })
-    (pattern-map ℕ-discrete Value-discrete table (s .pattern) (λ x y i j e. cc) ∙ f .own)
-
--- A shape is found at one place.
-module _ (rules : List Rule) (rows : List Record) (codes index parents makers headers : List ℕ) (count : ℕ)
-    (kept : Kept rules rows codes index parents makers headers count) where
-  pub place-one : (i j : ℕ) → i < count → j < count → shapeNo codes i ≡ shapeNo codes j → i ≡ j
-  place-one i j a b e =
-      let same : getD codes i 0 ≡ getD codes j 0 = shapeAt-one (getD codes i 0) (getD codes j 0) e in
-      omega (arith, kept .placed i a, kept .placed j b, ap (λ (c : ℕ). getD index c 0) same)
-
-  -- It is reached.
+-- A found shape is reached.
+module _ (rules : List Rule) (rows : List Record) (codes index : List ℕ) (ways : List (List ℕ)) (count : ℕ)
+    (kept : Kept rules rows codes index ways count) where
   reached-to : (n k : ℕ) → k < n → k < count → Reached rules rows (shapeNo codes k)
   reached-to zero k a b = absurd (omega arith)
-  reached-to (suc n) k a b = go (getD parents k 0) (getD makers k 0) (getD headers k 0) (kept .via k b) (λ s l. reached-to n s (omega arith) (omega arith))
+  reached-to (suc n) k a b = go (getD ways k []) (kept .via k b) (λ s l. reached-to n s (omega arith) (omega arith))
     where
-      go : (p m d : ℕ) → Via rules rows codes k p m d → ((s : ℕ) → s < k → Reached rules rows (shapeNo codes s)) → Reached rules rows (shapeNo codes k)
-      go p m d (viaRow x e named is) ih = record { on = x; reachable = row (nth-in rows m x named); shape = sym is }
-      go p m d (viaRule s r h e l named line applies is) ih =
-          let w = ih s l in
-          let f : Fires r (w .on) = applies-fires r (w .on) (subst (λ (t : Shape). Applies r t) (sym (w .shape)) applies) in
-          let i : In h (r .heads) = nth-in (r .heads) d h line in
-          record {
-            on = _;
-            reachable = madeFrom m r h named (w .reachable) f i;
-            shape = made-digits m r (w .on) h i ∙ ap (λ (t : Shape). shapeFrom r t h) (w .shape) ∙ sym is;
-          }
+      go : (way : List ℕ) → Via rules rows codes k way → ((s : ℕ) → s < k → Reached rules rows (shapeNo codes s)) → Reached rules rows (shapeNo codes k)
+      go way (viaRow x e named is) ih = record { on = x; reachable = row (nth-in rows (getD way 1 0) x named); shape = sym is }
+      go way (viaRule s r h e l named line applies is) ih =
+          subst (Reached rules rows) (sym is) (reached-coded rules rows (shapeNo codes s) (getD way 1 0) (getD way 2 0) r h named line applies (ih s l))
 
   pub place-reached : (k : ℕ) → k < count → Reached rules rows (shapeNo codes k)
   place-reached k l = reached-to (suc k) k (omega arith) l
@@ -76,16 +54,16 @@ module _ (rules : List Rule) (rows : List Record) (codes : List ℕ) (count : �
       }
 
 -- So the shapes that were found are just those that are reached.
-pub shapes-counted : (rules : List Rule) (rows : List Record) (codes index parents makers headers : List ℕ) (count : ℕ)
-    → Kept rules rows codes index parents makers headers count → Whole rules rows codes count → Count (Reached rules rows) count
-shapes-counted rules rows codes index parents makers headers count kept whole =
+pub shapes-counted : (rules : List Rule) (rows : List Record) (codes index : List ℕ) (ways : List (List ℕ)) (count : ℕ)
+    → Kept rules rows codes index ways count → Whole rules rows codes count → Count (Reached rules rows) count
+shapes-counted rules rows codes index ways count kept whole =
     record {
       list = map (shapeNo codes) (below count);
       different = noTwo-below (shapeNo codes) count
-          (λ i j l m e. let q = place-one rules rows codes index parents makers headers count kept i j (omega arith) m e in omega arith);
+          (λ i j l m e. let q = same-place kept i j (omega arith) m e in omega arith);
       sound = λ s i.
           let t = map-in (shapeNo codes) (below count) s i in
-          rw (t .2) (place-reached rules rows codes index parents makers headers count kept (t .0) (below-in count (t .0) (t .1)));
+          rw (t .2) (place-reached rules rows codes index ways count kept (t .0) (below-in count (t .0) (t .1)));
       complete = λ s r.
           let t = reachable-has rules rows codes count whole (r .reachable) in
           subst (λ (u : Shape). In u (map (shapeNo codes) (below count))) (t .there ∙ r .shape)
@@ -147,10 +125,10 @@ marked-noTwo a (suc n) (m ∷ ms) = go (eqb m 1) (marked-noTwo (suc a) n ms)
     go true ih = ((λ i. omega (arith, marked-in (suc a) n ms (suc a) i .1)), ih)
     go false ih = ih
 
-pub fired-counted : (rules : List Rule) (rows : List Record) (codes index parents makers headers fired : List ℕ) (count : ℕ)
-    → Kept rules rows codes index parents makers headers count → Whole rules rows codes count → FiredMarks rules codes fired count
+pub fired-counted : (rules : List Rule) (rows : List Record) (codes index : List ℕ) (ways : List (List ℕ)) (fired : List ℕ) (count : ℕ)
+    → Kept rules rows codes index ways count → Whole rules rows codes count → FiredRules rules codes fired count
     → Count (Fired rules rows) (onesIn (length rules) fired)
-fired-counted rules rows codes index parents makers headers fired count kept whole marks =
+fired-counted rules rows codes index ways fired count kept whole marks =
     record {
       list = marked 0 (length rules) fired;
       different = marked-noTwo 0 (length rules) fired;
@@ -165,7 +143,7 @@ fired-counted rules rows codes index parents makers headers fired count kept who
         let t = marks .sound (s .0) (λ z. omega (arith, z, s .2)) in
         let r = t .1 .0 in
         let k = t .1 .2 .0 in
-        let w = place-reached rules rows codes index parents makers headers count kept k (t .1 .2 .1) in
+        let w = place-reached rules rows codes index ways count kept k (t .1 .2 .1) in
         let is : n ≡ suc (s .0) = omega (arith, s .1) in
         record {
           rule = r;

@@ -7,6 +7,7 @@ use native.Mathlib.Nat.{eq-or-lt-of-le}
 use native.Mathlib.Decide.{ℕ-discrete}
 use Rattle.judging.specs.inner.Nodes.{back, weight, freshBack, Stable, Turn, Line}
 use Rattle.judging.specs.inner.Passes.{Timed, Long}
+use Rattle.judging.proofs.WalkLaws.{back-add}
 use Rattle.judging.proofs.PigeonLaws.{Twice, twice}
 
 -- Links join nodes below n.
@@ -20,17 +21,13 @@ pub record Kept (E : ℕ → ℕ → ℕ → Type 0) (G F K : ℕ → ℕ) : Typ
   pub timed : Timed G F K
 
 module _ (F : ℕ → ℕ) where
-  pub back-add : (a b x : ℕ) → back F (a + b) x ≡ back F a (back F b x)
-  back-add zero b x = ap (λ (k : ℕ). back F k x) (let q : 0 + b ≡ b = omega arith in q)
-  back-add (suc a) b x = ap (λ (k : ℕ). back F k x) (let q : suc a + b ≡ suc (a + b) = omega arith in q) ∙ ap F (back-add a b x)
-
   -- Two nodes of a walk are the same: the walk goes round.
   pub round : (i j x : ℕ) → i < j → back F i x ≡ back F j x → back F (j - i) (back F i x) ≡ back F i x
-  round i j x l e = sym (back-add (j - i) i x) ∙ ap (λ (k : ℕ). back F k x) (let q : (j - i) + i ≡ j = omega arith in q) ∙ sym e
+  round i j x l e = sym (back-add F (j - i) i x) ∙ ap (λ (k : ℕ). back F k x) (let q : (j - i) + i ≡ j = omega arith in q) ∙ sym e
 
   -- From two equal nodes, k links on.
   pub on : (k a b x : ℕ) → back F a x ≡ back F b x → back F (k + a) x ≡ back F (k + b) x
-  on k a b x e = back-add k a x ∙ ap (back F k) e ∙ sym (back-add k b x)
+  on k a b x e = back-add F k a x ∙ ap (back F k) e ∙ sym (back-add F k b x)
 
 module _ {E : ℕ → ℕ → ℕ → Type 0} {G F K : ℕ → ℕ} (kept : Kept E G F K) where
   -- A walk back loses as much height as it has fresh links, at the most.

@@ -17,22 +17,24 @@ use Rattle.chase.specs.Steps.{Step, Fresh, FreshAlone, Moves, lastFresh}
 use Rattle.chase.specs.Certificate.{asRecord, shapeAfter, EachShape, lastShape, largest, deepestOf, ClosedList, WayOn, LoopOn, LineOn, freshSteps}
 use Rattle.chase.proofs.StepLaws.{lastShape-append, lastFresh-append, freshSteps-append}
 use Rattle.judging.specs.inner.Codes.{shapeAt, codeOf}
-use Rattle.judging.specs.inner.Found.{shapeNo, Via, viaRow, viaRule, Kept, Whole, onesIn}
+use Rattle.judging.specs.inner.Found.{shapeNo, Via, viaRow, viaRule, Kept, Whole, onesIn, makerAt}
 use Rattle.judging.specs.inner.Nodes.{at, back, weight, Stable, Turn, Line}
 use Rattle.judging.specs.inner.Links.{Link, Closed}
 use Rattle.judging.specs.inner.Written.{lineTo, wayBack, wayTo, Falls, WayLength, StaysBelow, Deepest, InTurn, TurnLength, InLine, LineLength}
 use Rattle.judging.specs.inner.Facts.{Facts}
-use Rattle.judging.proofs.Counts.{place-one, shapes-counted, fired-counted}
+use Rattle.judging.proofs.FoundLaws.{same-place}
+use Rattle.judging.proofs.Counts.{shapes-counted, fired-counted}
 use Rattle.judging.proofs.Ways.{WayFrom, way-on}
 use Rattle.judging.proofs.ListOf.{listOf, closed-list, number-listed, listed-number}
 use Rattle.judging.proofs.LinkSteps.{link-fresh, link-ends}
-use Rattle.judging.proofs.Walks.{back-add, stepAt, walk, line-walk, walk-length, walk-follow, walk-lastFresh, walk-fresh, meets, node-below, start-node, start-below, step-to, walk-moves, loop-on, walk-short, rises-along, made-along}
+use Rattle.judging.proofs.WalkLaws.{back-add}
+use Rattle.judging.proofs.Walks.{stepAt, walk, line-walk, walk-length, walk-follow, walk-lastFresh, walk-fresh, meets, node-below, start-node, start-below, step-to, walk-moves, loop-on, walk-short, rises-along, made-along}
 
 -- The shapes that were found, with their index, as spreading needs them. `own`: a number is that of its shape.
-pub kept-closed : (rules : List Rule) (rows : List Record) (codes index parents makers headers : List ℕ) (count : ℕ)
-    → ((c : ℕ) → c < 17792 → codeOf (shapeAt c) ≡ c) → Kept rules rows codes index parents makers headers count → Whole rules rows codes count
+pub kept-closed : (rules : List Rule) (rows : List Record) (codes index : List ℕ) (ways : List (List ℕ)) (count : ℕ)
+    → ((c : ℕ) → c < 17792 → codeOf (shapeAt c) ≡ c) → Kept rules rows codes index ways count → Whole rules rows codes count
     → Closed rules codes index count
-kept-closed rules rows codes index parents makers headers count own kept whole =
+kept-closed rules rows codes index ways count own kept whole =
     record {
       size = kept .sizes .0;
       size-index = kept .sizes .1;
@@ -47,8 +49,8 @@ kept-closed rules rows codes index parents makers headers count own kept whole =
           omega (arith, z, kept .placed (t .place) (t .below), ap (λ (d : ℕ). getD index d 0) c);
     }
 
-module _ (lines : List SheetLine) (codes index parents makers headers fired : List ℕ) (count : ℕ) (generations from link : List (List ℕ)) (turning : ℕ)
-    (f : Facts lines codes index parents makers headers fired count generations from link turning) where
+module _ (lines : List SheetLine) (codes index : List ℕ) (ways : List (List ℕ)) (fired : List ℕ) (count : ℕ) (generations from link : List (List ℕ)) (turning : ℕ)
+    (f : Facts lines codes index ways fired count generations from link turning) where
   abbrev rules : List Rule
   rules = rulesOf lines
 
@@ -68,13 +70,13 @@ module _ (lines : List SheetLine) (codes index parents makers headers fired : Li
   K = at link
 
   pub shapes-reached : Count (Reached rules rows) count
-  shapes-reached = shapes-counted rules rows codes index parents makers headers count (f .kept) (f .whole)
+  shapes-reached = shapes-counted rules rows codes index ways count (f .kept) (f .whole)
 
   pub rules-fired : Count (Fired rules rows) (onesIn (length rules) fired)
-  rules-fired = fired-counted rules rows codes index parents makers headers fired count (f .kept) (f .whole) (f .marks)
+  rules-fired = fired-counted rules rows codes index ways fired count (f .kept) (f .whole) (f .fired-rules)
 
-  pub way-to : (k w : ℕ) → k < count → WayLength parents k w → WayFrom rules rows codes index parents makers headers count (f .kept) w k
-  way-to k w l w-is = way-on rules rows codes index parents makers headers count (f .kept) k w l w-is
+  pub way-to : (k w : ℕ) → k < count → WayLength ways k w → WayFrom rules rows codes index ways count (f .kept) w k
+  way-to k w l w-is = way-on rules rows codes index ways count (f .kept) k w l w-is
 
   -- Where nothing turns.
   module _ (settled : turning ≡ 0) where
@@ -82,7 +84,7 @@ module _ (lines : List SheetLine) (codes index parents makers headers fired : Li
     stable = f .spreads .settled settled .0
 
     pub list-closed : ClosedList rules rows (listOf codes generations count)
-    list-closed = closed-list rules rows codes index parents makers headers count generations (f .fit) (f .kept) (f .whole) stable
+    list-closed = closed-list rules rows codes index ways count generations (f .fit) (f .kept) (f .whole) stable
 
     raised-below : (x : ℕ) → 0 < G x → x < 7 * count
     raised-below x l = go (decLt x (7 * count))
@@ -177,15 +179,15 @@ module _ (lines : List SheetLine) (codes index parents makers headers fired : Li
     -- The line with the way to its first shape.
     pub record LineFound (x k w : ℕ) (start : ℕ) : Type 0 where
       pub row : Record
-      pub named : nth rows (getD makers (wayBack parents w (start / 7)) 0) ≡ some row
-      pub line : LineOn rules (shapeOf row) (wayTo parents makers headers w (start / 7) ++ lineTo F K k x) (G x)
-      pub size : length (wayTo parents makers headers w (start / 7) ++ lineTo F K k x) ≡ w + k
+      pub named : nth rows (makerAt ways (wayBack ways w (start / 7))) ≡ some row
+      pub line : LineOn rules (shapeOf row) (wayTo ways w (start / 7) ++ lineTo F K k x) (G x)
+      pub size : length (wayTo ways w (start / 7) ++ lineTo F K k x) ≡ w + k
       pub short : w + k ≤ 3583
 
-    line-trail : (x k w : ℕ) → weight (K x) ≡ 1 → Line E G F K (suc k) x (G x) → (way : WayFrom rules rows codes index parents makers headers count (f .kept) w (back F (suc k) x / 7))
-        → LineOn rules (shapeOf (way .row)) (wayTo parents makers headers w (back F (suc k) x / 7) ++ lineTo F K (suc k) x) (G x)
+    line-trail : (x k w : ℕ) → weight (K x) ≡ 1 → Line E G F K (suc k) x (G x) → (way : WayFrom rules rows codes index ways count (f .kept) w (back F (suc k) x / 7))
+        → LineOn rules (shapeOf (way .row)) (wayTo ways w (back F (suc k) x / 7) ++ lineTo F K (suc k) x) (G x)
     line-trail x k w made s way =
-        let ss = wayTo parents makers headers w (back F (suc k) x / 7) in
+        let ss = wayTo ways w (back F (suc k) x / 7) in
         let st = stepAt F K k x in
         let u = back F (suc k) x in
         let v = back F k x in
@@ -221,7 +223,7 @@ module _ (lines : List SheetLine) (codes index parents makers headers fired : Li
               );
         }
 
-    pub line-found : (x k w : ℕ) → 0 < G x → Deepest generations link (7 * count) x → LineLength generations from (7 * count) x k → WayLength parents (back F k x / 7) w
+    pub line-found : (x k w : ℕ) → 0 < G x → Deepest generations link (7 * count) x → LineLength generations from (7 * count) x k → WayLength ways (back F k x / 7) w
         → LineFound x k w (back F k x)
     line-found x zero w raised deep size way-is = absurd (omega (arith, line-some x 0 raised size))
     line-found x (suc k) w raised deep size way-is =
@@ -233,7 +235,7 @@ module _ (lines : List SheetLine) (codes index parents makers headers fired : Li
           named = way .named;
           line = line-trail x k w (deepest-made x deep raised) (line-is x (suc k) raised size) way;
           size =
-              length-append (wayTo parents makers headers w start) (lineTo F K (suc k) x)
+              length-append (wayTo ways w start) (lineTo F K (suc k) x)
               ∙ omega (arith, way .size, ap (λ (l : List Step). length l) (line-walk F K (suc k) x), walk-length F K (suc k) x);
           short = omega (arith, way .short, begins, line-short x (suc k) raised size, f .kept .few);
         }
@@ -274,7 +276,7 @@ module _ (lines : List SheetLine) (codes index parents makers headers fired : Li
         go (no h) ih =
             let i : ℕ = j - turn-long in
             let q : i + turn-long ≡ j = omega arith in
-            let e : back F j y ≡ back F i y = ap (λ (n : ℕ). back F n y) (sym q) ∙ sym (back-add F K i turn-long y) ∙ ap (back F i) (turn-is .closes) in
+            let e : back F j y ≡ back F i y = ap (λ (n : ℕ). back F n y) (sym q) ∙ back-add F i turn-long y ∙ ap (back F i) (turn-is .closes) in
             rw e (ih i (omega (arith, turn-is .some)))
 
     pub in-turn : InTurn from (7 * count) y
@@ -301,14 +303,14 @@ module _ (lines : List SheetLine) (codes index parents makers headers fired : Li
     -- The loop with the way to its first shape.
     pub record LoopFound (k w : ℕ) : Type 0 where
       pub row : Record
-      pub named : nth rows (getD makers (wayBack parents w (y / 7)) 0) ≡ some row
-      pub way : WayOn rules (shapeOf row) (wayTo parents makers headers w (y / 7))
-      pub loop : LoopOn rules (lastShape rules (shapeOf row) (wayTo parents makers headers w (y / 7))) (lineTo F K k y)
-      pub way-size : length (wayTo parents makers headers w (y / 7)) ≡ w
+      pub named : nth rows (makerAt ways (wayBack ways w (y / 7))) ≡ some row
+      pub way : WayOn rules (shapeOf row) (wayTo ways w (y / 7))
+      pub loop : LoopOn rules (lastShape rules (shapeOf row) (wayTo ways w (y / 7))) (lineTo F K k y)
+      pub way-size : length (wayTo ways w (y / 7)) ≡ w
       pub loop-size : length (lineTo F K k y) ≡ k
       pub short : w + k ≤ 4096
 
-    pub loop-found : (k w : ℕ) → TurnLength from (7 * count) y k → WayLength parents (y / 7) w → LoopFound k w
+    pub loop-found : (k w : ℕ) → TurnLength from (7 * count) y k → WayLength ways (y / 7) w → LoopFound k w
     loop-found k w size way-is =
         let here : y / 7 < count = omega (arith, turn-below) in
         let way = way-to (y / 7) w here way-is in
@@ -320,21 +322,21 @@ module _ (lines : List SheetLine) (codes index parents makers headers fired : Li
           loop =
               rw (way .last)
               (loop-on rules codes count (f .fit) (f .kept .fits) F K
-              (place-one rules rows codes index parents makers headers count (f .kept)) k y turn);
+              (same-place (f .kept)) k y turn);
           way-size = way .size;
           loop-size = ap (λ (l : List Step). length l) (line-walk F K k y) ∙ walk-length F K k y;
           short = omega (arith, way .short, here, size .few, f .kept .few);
         }
 
   -- Each shape that is not a row's was made of one that was found before it.
-  pub falls : Falls parents count
+  pub falls : Falls ways count
   falls =
       record {
         size = f .kept .sizes .2;
         few = f .kept .few;
-        before = λ k l. go k (getD parents k 0) (getD makers k 0) (getD headers k 0) (f .kept .via k l);
+        before = λ k l. go k (getD ways k []) (f .kept .via k l);
       }
     where
-      go : (k p m d : ℕ) → Via rules rows codes k p m d → p ≤ k
-      go k p m d (viaRow x e named is) = omega arith
-      go k p m d (viaRule s r h e l named line applies is) = omega arith
+      go : (k : ℕ) (way : List ℕ) → Via rules rows codes k way → getD way 0 0 ≤ k
+      go k way (viaRow x e named is) = omega arith
+      go k way (viaRule s r h e l named line applies is) = omega arith

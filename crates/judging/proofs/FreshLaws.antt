@@ -10,7 +10,7 @@ use lib.Seq.{getD-set-same, getD-set-other}
 use Rattle.judging.specs.inner.Table.{rowBytes, TableFits}
 use Rattle.judging.specs.inner.Firing.{kindByte}
 use Rattle.judging.specs.inner.Nodes.{Zeros}
-use Rattle.judging.specs.inner.Passes.{Rests, FieldE, carriedE, freshE, EachE}
+use Rattle.judging.specs.inner.Passes.{Rests, FieldLink, carriedLink, freshLink, EachLink}
 use Rattle.judging.specs.inner.Fresh.{HeadFresh, RuleFresh, FreshKinds, FirstWaiting}
 use Rattle.judging.proofs.GraphLaws.{shape-own}
 use Rattle.judging.proofs.RuleLaws.{rule-kind}
@@ -81,11 +81,11 @@ first-all {table} {codes} {waiting} {rules} {s} {count} x a b = let q : s ≡ co
 module _ {table : List ℕ} {rules : ℕ} (tf : TableFits table rules) {codes waiting : List ℕ} {count : ℕ}
     (first : FirstWaiting table rules codes count waiting) {g : List (List ℕ)} (z : Zeros g) where
   field-rests : (bytes : List ℕ) (r h s t j u v code : ℕ) → j < getD bytes (33 + 8 * h) 0 → (HeadFresh bytes h → getD waiting (u / 7) 0 ≡ 1)
-      → FieldE bytes r h s t j u v code → Rests g waiting u v code
-  field-rests bytes r h s t j u v code l waits (carriedE d e) = inr (let q = e .code-is in omega (arith, z .zero-at u, z .zero-at v))
-  field-rests bytes r h s t j u v code l waits (freshE q e) = inl (waits (record { j = j; below = l; fresh = q }))
+      → FieldLink bytes r h s t j u v code → Rests g waiting u v code
+  field-rests bytes r h s t j u v code l waits (carriedLink d e) = inr (let q = e .code-is in omega (arith, z .zero-at u, z .zero-at v))
+  field-rests bytes r h s t j u v code l waits (freshLink q e) = inl (waits (record { j = j; below = l; fresh = q }))
 
-  pub first-rests : (index : List ℕ) (u v code : ℕ) → EachE table rules codes index count u v code → Rests g waiting u v code
+  pub first-rests : (index : List ℕ) (u v code : ℕ) → EachLink table rules codes index count u v code → Rests g waiting u v code
   first-rests index u v code e =
       let s = e .number in
       let r = e .here .number in

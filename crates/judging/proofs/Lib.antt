@@ -18,7 +18,6 @@ pub mod NoteLaws
 pub mod OrderLaws
 pub mod PartLaws
 pub mod PassLaws
-pub mod PatternPlaces
 pub mod PigeonLaws
 pub mod Places
 pub mod RoundLaws

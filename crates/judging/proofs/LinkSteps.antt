@@ -1,7 +1,7 @@
 -- The step of a link: its numbers, and that it is a carried or a fresh step from the one shape to the other. Assumes nothing.
 use mathlib.Core.Path.{_≡_, refl, _∙_, ap}
 use mathlib.Core.Logic.{_⊎_, inl, inr}
-use mathlib.Core.List.{List, []}
+use mathlib.Core.List.{List, [], map-id}
 use mathlib.Core.Option.{some}
 use Prim.Native.Nat.{ℕ, zero, suc, _+_, _*_, _/_, _%_, _≤_, _<_}
 use native.Mathlib.Omega.{arith}
@@ -13,18 +13,15 @@ use Rattle.chase.specs.Shape.{Shape}
 use Rattle.chase.specs.Steps.{Step, Goes, Fresh, FreshAlone, Moves}
 use Rattle.chase.specs.Certificate.{asRecord, shapeAfter}
 use Rattle.chase.proofs.ListLaws.{all-in}
-use Rattle.chase.proofs.MakingLaws.{agree-has-value, carried-in, carried-has-value}
-use Rattle.chase.proofs.ShapeLaws.{applies-as-record}
-use Rattle.chase.proofs.StepLaws.{nth-in, carried-on-shape, fresh-on-shape}
+use Rattle.chase.proofs.CodedLaws.{carried-in, bodyWidth, codeAt, markAt, headWidth, mark-below, applies-wide, stands-code, carried-code, carried-coded, fresh-coded, alone-coded, after-coded, applies-as-record}
+use Rattle.chase.proofs.StepLaws.{nth-in}
 use Rattle.judging.specs.inner.Table.{HeadFits, RuleFits}
 use Rattle.judging.specs.inner.Codes.{ShapeFits}
 use Rattle.judging.specs.inner.Found.{shapeNo}
 use Rattle.judging.specs.inner.Links.{Link, Begins, carried, new}
 use Rattle.judging.specs.inner.Written.{linkStep}
 use Rattle.judging.proofs.Places.{nth-below}
-use Rattle.judging.proofs.Counts.{fits-as-record}
-use Rattle.judging.proofs.Ways.{goes-to}
-use Rattle.judging.proofs.Sources.{first-within, first-value, first-at, Source, nothing, first, source-is}
+use Rattle.judging.proofs.Sources.{bodyPlace, place-within, stands-placed, code-there, Source, nothing, first, source-is}
 
 module _ (rules : List Rule) (codes : List ℕ) (count : ℕ) (fit : All RuleFits rules) (fits : (k : ℕ) → k < count → ShapeFits (shapeNo codes k))
     (u v code : ℕ) (l : Link rules codes count u v code) where
@@ -32,7 +29,7 @@ module _ (rules : List Rule) (codes : List ℕ) (count : ℕ) (fit : All RuleFit
   rule-fits = all-in RuleFits (l .rule) rules fit (nth-in rules (suc (l .n)) (l .rule) (l .named))
 
   place-small : (m p f : ℕ) → Begins (l .rule) m p f → p ≤ 6
-  place-small m p f (carried i e z) = omega (arith, e, first-within m (l .rule .marks), rule-fits .marks .few)
+  place-small m p f (carried i e z) = omega (arith, e, place-within (l .rule) m, rule-fits .marks .few)
   place-small m p f (new i s e z) = s
 
   fresh-small : (m p f : ℕ) → Begins (l .rule) m p f → f ≤ 1
@@ -50,7 +47,7 @@ module _ (rules : List Rule) (codes : List ℕ) (count : ℕ) (fit : All RuleFit
     pub fresh : code % 2 ≡ l .fresh
     pub from-below : u < 7 * count
     pub to-below : v < 7 * count
-    pub wide : l .j < length (l .head .marks)
+    pub wide : l .j < headWidth (l .head)
 
   pub link-numbers : Numbers
   link-numbers =
@@ -58,8 +55,7 @@ module _ (rules : List Rule) (codes : List ℕ) (count : ℕ) (fit : All RuleFit
       let f = fresh-small (l .mark) (l .place) (l .fresh) (l .begins) in
       let a = nth-below (l .rule .heads) (suc (l .h)) (l .head) (l .line) in
       let h : l .h < 4 = omega (arith, a .1, a .2, rule-fits .few) in
-      let b = nth-below (l .head .marks) (suc (l .j)) (l .mark) (l .to) in
-      let wide : l .j < length (l .head .marks) = omega (arith, b .1, b .2) in
+      let wide = mark-below (l .head) (l .j) (l .mark) (l .to) in
       let d = all-in HeadFits (l .head) (l .rule .heads) (rule-fits .heads) (nth-in (l .rule .heads) (suc (l .h)) (l .head) (l .line)) in
       let j : l .j < 6 = omega (arith, wide, d .marks .few) in
       let ui = l .from-is in
@@ -96,43 +92,40 @@ module _ (rules : List Rule) (codes : List ℕ) (count : ℕ) (fit : All RuleFit
         fires = applies-as-record (l .rule) from (l .applies);
       }
 
-  to-mark : nth (l .head .marks) (v % 7) ≡ some (l .mark)
-  to-mark = ap (nth (l .head .marks)) (link-numbers .to-field) ∙ l .to
+  to-mark : markAt (l .head) (v % 7) ≡ some (l .mark)
+  to-mark = ap (markAt (l .head)) (link-numbers .to-field) ∙ l .to
+
+  from-wide : bodyWidth (l .rule) ≡ length (from .pattern)
+  from-wide = applies-wide (l .rule) from (l .applies)
+
+  -- A digit of the shape, at the place of a mark where the link begins.
+  begins-at : (p m d : ℕ) → l .place ≡ p → p ≡ bodyPlace (l .rule) m → codeAt (l .rule) (from .pattern) m ≡ some d → nth (from .pattern) (u % 7) ≡ some d
+  begins-at p m d pe q e = ap (nth (from .pattern)) (link-numbers .from-field ∙ pe ∙ q) ∙ code-there (l .rule) m (from .pattern) d e
 
   -- Where the link begins.
   moves-from : (p f : ℕ) → l .place ≡ p → l .fresh ≡ f → Begins (l .rule) (l .mark) p f → (p ≡ 0 → ⊥) → Moves rules step (asRecord from)
   moves-from p f pe fe (carried i e z) away =
-      let s = agree-has-value (l .rule .marks) (from .pattern) (l .mark) (l .applies .agree) i in
-      let at : nth (from .pattern) (u % 7) ≡ some (s .0) =
-      ap (nth (from .pattern)) (link-numbers .from-field ∙ pe ∙ e) ∙ first-value (l .mark) (l .rule .marks) (from .pattern) (s .0) (s .1) in
-      inl (carried-on-shape rules step from goes-from (l .mark) (s .0) to-mark at (link-numbers .fresh ∙ fe ∙ z) (s .1))
+      let s = stands-code (l .rule) (from .pattern) from-wide (l .mark) i in
+      inl (carried-coded (λ d. d) rules step from (from .pattern) (map-id (from .pattern)) goes-from (l .mark) to-mark (s .0)
+      (begins-at p (l .mark) (s .0) pe e (s .1)) (link-numbers .fresh ∙ fe ∙ z) (s .1))
   moves-from p f pe fe (new i small e z) away = go (source-is (l .rule) p e)
     where
       go : Source (l .rule) p → Moves rules step (asRecord from)
       go (nothing q c) = absurd (away q)
       go (first m c q) =
-          let s = carried-has-value (l .rule) (from .pattern) m (l .applies .agree) c in
-          let at : nth (from .pattern) (u % 7) ≡ some (s .0) =
-          ap (nth (from .pattern)) (link-numbers .from-field ∙ pe ∙ q) ∙ first-value m (l .rule .marks) (from .pattern) (s .0) (s .1) in
-          inr (fresh-on-shape rules step from goes-from (l .mark) (s .0) to-mark at (link-numbers .fresh ∙ fe ∙ z) i (s .2))
+          let s = carried-code (l .rule) (from .pattern) from-wide m c in
+          inr (fresh-coded (λ d. d) rules step from (from .pattern) (map-id (from .pattern)) goes-from (l .mark) to-mark (s .0)
+          (begins-at p m (s .0) pe q (s .1)) m (link-numbers .fresh ∙ fe ∙ z) i c (s .1))
 
   alone-from : (p f : ℕ) → l .place ≡ p → l .fresh ≡ f → Begins (l .rule) (l .mark) p f → p ≡ 0 → FreshAlone rules step (asRecord from)
-  alone-from p f pe fe (carried i e z) away =
-      absurd (let s = first-at (l .mark) (l .rule .marks) i in omega (arith, s .1))
+  alone-from p f pe fe (carried i e z) away = absurd (omega (arith, stands-placed (l .rule) (l .mark) i))
   alone-from p f pe fe (new i small e z) away =
-      record {
-        goes = goes-from;
-        fresh = link-numbers .fresh ∙ fe ∙ z;
-        mark = l .mark;
-        to = to-mark;
-        new = i;
-        nothing = go (source-is (l .rule) p e);
-        from = link-numbers .from-field ∙ pe ∙ away;
-      }
+      alone-coded (λ d. d) rules step from (from .pattern) (map-id (from .pattern)) goes-from (l .mark) to-mark (link-numbers .from-field ∙ pe ∙ away)
+      (link-numbers .fresh ∙ fe ∙ z) i (go (source-is (l .rule) p e))
     where
       go : Source (l .rule) p → carriedMarks (l .rule) ≡ []
       go (nothing q c) = c
-      go (first m c q) = absurd (let s = first-at m (l .rule .marks) (carried-in (l .rule) m c .0) in omega (arith, s .1))
+      go (first m c q) = absurd (omega (arith, stands-placed (l .rule) m (carried-in (l .rule) m c .0)))
 
   pub link-moves : (u % 7 ≡ 0 → ⊥) → Moves rules (linkStep u code v) (asRecord (shapeNo codes (u / 7)))
   link-moves away =
@@ -155,7 +148,7 @@ module _ (rules : List Rule) (codes : List ℕ) (count : ℕ) (fit : All RuleFit
   pub link-to : shapeAfter rules (linkStep u code v) (shapeNo codes (u / 7)) ≡ shapeNo codes (v / 7)
   link-to =
       rw (link-numbers .from-shape, link-numbers .to-shape)
-      (goes-to rules step from (shapeNo codes (l .t)) goes-from (fits-as-record from (fits (l .s) (l .s-below))) (l .makes))
+      (after-coded rules step from goes-from (fits (l .s) (l .s-below) .own) ∙ l .makes)
 
   pub link-begins : u / 7 < count
   link-begins = omega (arith, link-numbers .from-below)

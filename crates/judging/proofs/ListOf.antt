@@ -4,29 +4,26 @@ use mathlib.Core.Logic.{inl, inr}
 use mathlib.Core.List.{List, [], _∷_, map}
 use mathlib.Core.Option.{some, Option·none-ne-some}
 use Prim.Native.Nat.{ℕ, zero, suc, _+_, _*_, _≤_, _<_}
-use native.Mathlib.Decide.{ℕ-discrete}
 use native.Mathlib.Omega.{arith}
 use lib.ListN.{length, getElem?}
-use Rattle.patterns.proofs.PatternLaws.{length-pattern}
-use Rattle.chase.specs.Lists.{In, All, All2, in?}
+use Rattle.chase.specs.Lists.{In, All, All2}
 use Rattle.chase.specs.Rules.{Head, Rule, nth}
-use Rattle.chase.specs.Making.{Record, Fires, valueOf, orElse, carriedMarks, carriedValues, makes}
+use Rattle.chase.specs.Making.{Record, Fires, carriedMarks, carriedValues}
 use Rattle.chase.specs.Shape.{Shape}
 use Rattle.chase.specs.Simplification.{Applies}
 use Rattle.chase.specs.Certificate.{asRecord, shapeMade, largest, newGeneration, Listed, deepestOf, Covers, ClosedList}
 use Rattle.chase.proofs.ListLaws.{in-map, map-in, all-in}
-use Rattle.chase.proofs.MakingLaws.{mark-has-value, no-mark-no-value, agree-length, carriedValues-in, makes-length}
-use Rattle.chase.proofs.ShapeLaws.{as-record-applies, shapeMade-digits}
+use Rattle.chase.proofs.CodedLaws.{carriedValues-in, InBody, bodyWidth, codeAt, markAt, codesMade, mark-below, applies-wide, made-width, made-each, own-record, as-record-applies, shapeMade-digits}
 use Rattle.chase.proofs.StepLaws.{nth-in}
 use Rattle.chase.proofs.BoundLaws.{largest-deepest}
-use Rattle.judging.specs.inner.Table.{RuleFits, firstPlace}
-use Rattle.judging.specs.inner.Codes.{ShapeFits, shapeFrom, newDigit}
+use Rattle.judging.specs.inner.Table.{RuleFits}
+use Rattle.judging.specs.inner.Codes.{ShapeFits, shapeFrom}
 use Rattle.judging.specs.inner.Found.{shapeNo, Kept, Whole}
 use Rattle.judging.specs.inner.Nodes.{at, weight, Stable}
 use Rattle.judging.specs.inner.Links.{Link, Begins, carried, new}
 use Rattle.judging.proofs.Places.{below, below-in, in-below, nth-below, in-nth}
-use Rattle.judging.proofs.Counts.{fits-as-record}
-use Rattle.judging.proofs.Sources.{first-within, first-value, no-source, carried-source}
+use Rattle.judging.proofs.LinkLaws.{link-of}
+use Rattle.judging.proofs.Sources.{bodyPlace, place-within, code-there, no-source, carried-source}
 
 -- The numbers of n nodes, from node a on.
 abbrev pub numbersFrom : (ℕ → ℕ) → ℕ → ℕ → List ℕ
@@ -73,14 +70,6 @@ numbersFrom-in G a n x i =
     let t = numbersFrom-element G a n (s .0) x (s .1) in
     (s .0, t .1, t .0)
 
--- What marks give, place by place.
-each-below : (f G : ℕ → ℕ) (a : ℕ) (ms : List ℕ) → ((j m : ℕ) → nth ms (suc j) ≡ some m → f m ≤ G (a + j))
-    → All2 _≤_ (map f ms) (numbersFrom G a (length ms))
-each-below f G a [] h = tt
-each-below f G a (m ∷ ms) h =
-    let z : a + 0 ≡ a = omega arith in
-    (rw z at (h 0 m refl), each-below f G (suc a) ms (λ j n e. let q : a + suc j ≡ suc a + j = omega arith in rw q at (h (suc j) n e)))
-
 largest-below : (ns : List ℕ) (x : ℕ) → 0 < x → ((n : ℕ) → In n ns → suc n ≤ x) → suc (largest ns) ≤ x
 largest-below [] x p h = omega arith
 largest-below (n ∷ ns) x p h = omega (arith, h n (inl refl), largest-below ns x p (λ m i. h m (inr i)))
@@ -98,13 +87,6 @@ deepest-most : (list : List Listed) (x : ℕ) → ((l : Listed) → In l list �
 deepest-most [] x h = omega arith
 deepest-most (l ∷ list) x h = omega (arith, h l (inl refl), deepest-most list x (λ m i. h m (inr i)))
 
--- The width of the shape that an H line makes.
-pub made-width : (r : Rule) (s t : Shape) (h : Head) → shapeFrom r s h ≡ t → length (t .pattern) ≡ length (h .marks)
-made-width r s t h e =
-    ap (λ (u : Shape). length (u .pattern)) (sym e)
-    ∙ length-pattern ℕ-discrete (makes (newDigit (length (s .pattern))) r (s .pattern) (h .marks))
-    ∙ makes-length r (s .pattern) (newDigit (length (s .pattern))) (h .marks)
-
 module _ (rules : List Rule) (codes : List ℕ) (count : ℕ) (fit : All RuleFits rules) (G : ℕ → ℕ) (stable : Stable (Link rules codes count) G) where
   -- A rule and an H line by which the shape at place t is made of that at place k.
   module _ (k t n h : ℕ) (r : Rule) (d : Head) (k-below : k < count) (t-below : t < count) (named : nth rules (suc n) ≡ some r)
@@ -115,96 +97,54 @@ module _ (rules : List Rule) (codes : List ℕ) (count : ℕ) (fit : All RuleFit
     numbers : List ℕ
     numbers = numbersFrom G (7 * k + 1) (length (shapeNo codes k .pattern))
 
-    as-long : length (r .marks) ≡ length numbers
+    as-long : bodyWidth r ≡ length numbers
     unfolding numbers
-    as-long =
-        agree-length (r .marks) (shapeNo codes k .pattern) (applies .agree)
-        ∙ sym (numbersFrom-length G (7 * k + 1) (length (shapeNo codes k .pattern)))
+    as-long = applies-wide r (shapeNo codes k) applies ∙ sym (numbersFrom-length G (7 * k + 1) (length (shapeNo codes k .pattern)))
 
-    -- The value of a mark is the number of its first place.
-    mark-number : (m x : ℕ) → valueOf (r .marks) numbers m ≡ some x → x ≡ G (7 * k + firstPlace m (r .marks))
+    -- The number of a mark is that of its place.
+    mark-number : (m x : ℕ) → codeAt r numbers m ≡ some x → x ≡ G (7 * k + bodyPlace r m)
     unfolding numbers
-    mark-number m x e =
-        numbers-nth G k (length (shapeNo codes k .pattern)) (firstPlace m (r .marks)) x
-        (first-value m (r .marks) numbers x e)
+    mark-number m x e = numbers-nth G k (length (shapeNo codes k .pattern)) (bodyPlace r m) x (code-there r m numbers x e)
 
     -- A link raises.
-    raises : (j m place fresh : ℕ) → nth (d .marks) (suc j) ≡ some m → Begins r m place fresh
+    raises : (j m place fresh : ℕ) → markAt d (suc j) ≡ some m → Begins r m place fresh
         → G (7 * k + place) + weight (8 * n + 2 * h + fresh) ≤ G (7 * t + suc j)
     unfolding Stable
     raises j m place fresh e b =
-        stable (7 * k + place) (7 * t + suc j) (8 * n + 2 * h + fresh)
-        (record {
-          s = k;
-          t = t;
-          n = n;
-          h = h;
-          j = j;
-          place = place;
-          fresh = fresh;
-          mark = m;
-          rule = r;
-          head = d;
-          s-below = k-below;
-          t-below = t-below;
-          named = named;
-          line = line;
-          applies = applies;
-          makes = to;
-          to = e;
-          begins = b;
-          from-is = refl;
-          to-is = refl;
-          code-is = refl;
-        })
+        stable (7 * k + place) (7 * t + suc j) (8 * n + 2 * h + fresh) (link-of rules codes count k t n h k-below t-below named line applies to j e b refl refl refl)
 
-    first-small : (m : ℕ) → firstPlace m (r .marks) ≤ 6
-    first-small m = omega (arith, first-within m (r .marks), fits .marks .few)
+    place-small : (m : ℕ) → bodyPlace r m ≤ 6
+    place-small m = omega (arith, place-within r m, fits .marks .few)
 
-    carried-raises : (j m x : ℕ) → nth (d .marks) (suc j) ≡ some m → In m (r .marks) → valueOf (r .marks) numbers m ≡ some x → x ≤ G (7 * t + suc j)
-    carried-raises j m x e i v =
-        omega (arith, mark-number m x v, raises j m (firstPlace m (r .marks)) 0 e (carried i refl refl))
+    carried-raises : (j m x : ℕ) → markAt d (suc j) ≡ some m → InBody r m → codeAt r numbers m ≡ some x → x ≤ G (7 * t + suc j)
+    carried-raises j m x e i v = omega (arith, mark-number m x v, raises j m (bodyPlace r m) 0 e (carried i refl refl))
 
-    new-raises : (j m : ℕ) → nth (d .marks) (suc j) ≡ some m → (In m (r .marks) → ⊥) → suc (largest (carriedValues r numbers)) ≤ G (7 * t + suc j)
+    new-raises : (j m : ℕ) → markAt d (suc j) ≡ some m → (InBody r m → ⊥) → suc (largest (carriedValues r numbers)) ≤ G (7 * t + suc j)
     new-raises j m e i = largest-below (carriedValues r numbers) (G (7 * t + suc j)) (some-raise (carriedMarks r) refl) each-raise
       where
         each-raise : (x : ℕ) → In x (carriedValues r numbers) → suc x ≤ G (7 * t + suc j)
         each-raise x a =
             let c = carriedValues-in r numbers x a in
-            let l = raises j m (firstPlace (c .0) (r .marks)) 1 e (new i (first-small (c .0)) (carried-source r (c .0) (c .1)) refl) in
+            let l = raises j m (bodyPlace r (c .0)) 1 e (new i (place-small (c .0)) (carried-source r (c .0) (c .1)) refl) in
             omega (arith, mark-number (c .0) x (c .2), l)
 
         some-raise : (cs : List ℕ) → carriedMarks r ≡ cs → 0 < G (7 * t + suc j)
-        some-raise [] q =
-            let l = raises j m 0 1 e (new i (omega arith) (no-source r q) refl) in
-            omega (arith, l)
+        some-raise [] q = omega (arith, raises j m 0 1 e (new i (omega arith) (no-source r q) refl))
         some-raise (c ∷ cs) q =
             let a : In c (carriedMarks r) = subst (λ (l : List ℕ). In c l) (sym q) (inl refl) in
-            let l = raises j m (firstPlace c (r .marks)) 1 e (new i (first-small c) (carried-source r c a) refl) in
-            omega (arith, l)
+            omega (arith, raises j m (bodyPlace r c) 1 e (new i (place-small c) (carried-source r c a) refl))
 
-    field-raises : (j m : ℕ) → nth (d .marks) (suc j) ≡ some m
-        → orElse (newGeneration m (carriedValues r numbers)) (valueOf (r .marks) numbers m) ≤ G (7 * t + 1 + j)
-    field-raises j m e = rw node (go (in? ℕ-discrete m (r .marks)))
-      where
-        node : 7 * t + 1 + j ≡ 7 * t + suc j
-        node = omega arith
-
-        go : Dec (In m (r .marks)) → orElse (newGeneration m (carriedValues r numbers)) (valueOf (r .marks) numbers m) ≤ G (7 * t + suc j)
-        go (yes i) =
-            let v = mark-has-value (r .marks) numbers m as-long i in
-            rw (v .1) (carried-raises j m (v .0) e i (v .1))
-        go (no i) = rw (no-mark-no-value (r .marks) numbers m i) (new-raises j m e i)
-
-    pub numbers-cover : All2 _≤_ (makes newGeneration r (numbersFrom G (7 * k + 1) (length (shapeNo codes k .pattern))) (d .marks))
+    pub numbers-cover : All2 _≤_ (codesMade newGeneration r (numbersFrom G (7 * k + 1) (length (shapeNo codes k .pattern))) d)
         (numbersFrom G (7 * t + 1) (length (shapeNo codes t .pattern)))
     unfolding numbers
     numbers-cover =
-        rw (made-width r (shapeNo codes k) (shapeNo codes t) d to)
-        (each-below (λ m. orElse (newGeneration m (carriedValues r numbers)) (valueOf (r .marks) numbers m)) G (7 * t + 1) (d .marks) field-raises)
+        made-each _≤_ newGeneration r numbers as-long d (numbersFrom G (7 * t + 1) (length (shapeNo codes t .pattern)))
+        (sym (numbersFrom-length G (7 * t + 1) (length (shapeNo codes t .pattern)) ∙ ap (λ (u : Shape). length (u .pattern)) (sym to) ∙ made-width r (shapeNo codes k) d))
+        (λ j m x y e q i v. omega (arith, numbers-nth G t (length (shapeNo codes t .pattern)) (suc j) y q, carried-raises j m x e i v))
+        (λ j m y e q i. omega (arith, numbers-nth G t (length (shapeNo codes t .pattern)) (suc j) y q, new-raises j m e i))
 
-module _ (rules : List Rule) (rows : List Record) (codes index parents makers headers : List ℕ) (count : ℕ) (generations : List (List ℕ))
-    (fit : All RuleFits rules) (kept : Kept rules rows codes index parents makers headers count) (whole : Whole rules rows codes count)
+module _ (rules : List Rule) (rows : List Record) (codes index : List ℕ) (ways : List (List ℕ)) (count : ℕ) (generations : List (List ℕ))
+    (fit : All RuleFits rules) (kept : Kept rules rows codes index ways count) (whole : Whole rules rows codes count)
     (stable : Stable (Link rules codes count) (at generations)) where
   abbrev entry : ℕ → Listed
   entry k = entryAt codes (at generations) k
@@ -213,7 +153,7 @@ module _ (rules : List Rule) (rows : List Record) (codes index parents makers he
   in-list k l = in-map entry k (below count) (in-below count k l)
 
   covers : (k n : ℕ) (r : Rule) (h : Head) → k < count → nth rules n ≡ some r → Fires r (asRecord (shapeNo codes k)) → In h (r .heads)
-      → Covers (listOf codes generations count) (shapeMade r (shapeNo codes k) h) (makes newGeneration r (entry k .numbers) (h .marks))
+      → Covers (listOf codes generations count) (shapeMade r (shapeNo codes k) h) (codesMade newGeneration r (entry k .numbers) h)
   covers k n r h l named f i =
       let a = as-record-applies r (shapeNo codes k) f in
       let t = whole .rules-in k n r h l named a i in
@@ -222,7 +162,7 @@ module _ (rules : List Rule) (rows : List Record) (codes index parents makers he
       record {
         entry = entry (t .place);
         listed = in-list (t .place) (t .below);
-        shape = t .there ∙ sym (shapeMade-digits r (shapeNo codes k) h i (fits-as-record (shapeNo codes k) (kept .fits k l)));
+        shape = t .there ∙ sym (shapeMade-digits r (shapeNo codes k) h i (own-record (shapeNo codes k) (kept .fits k l .own)));
         above =
             numbers-cover rules codes count fit (at generations) stable k (t .place) (p .0) (q .0) r h l (t .below) (rw (p .1) at named) (q .1) a
             (sym (t .there));
@@ -239,7 +179,7 @@ module _ (rules : List Rule) (rows : List Record) (codes index parents makers he
             (entry (t .place), in-list (t .place) (t .below), t .there);
         closed = λ n r h l named i f j.
             let s = map-in entry (below count) l i in
-            subst (λ (l : Listed). Covers (listOf codes generations count) (shapeMade r (l .shape) h) (makes newGeneration r (l .numbers) (h .marks)))
+            subst (λ (l : Listed). Covers (listOf codes generations count) (shapeMade r (l .shape) h) (codesMade newGeneration r (l .numbers) h))
             (sym (s .2))
             (covers (s .0) n r h (below-in count (s .0) (s .1)) named (subst (λ (l : Listed). Fires r (asRecord (l .shape))) (s .2) f) j);
       }
@@ -248,9 +188,9 @@ module _ (rules : List Rule) (rows : List Record) (codes index parents makers he
 pub number-listed : (rules : List Rule) (codes : List ℕ) (count : ℕ) (fit : All RuleFits rules) (fits : (k : ℕ) → k < count → ShapeFits (shapeNo codes k))
     (generations : List (List ℕ)) (u v code : ℕ) → Link rules codes count u v code → at generations v ≤ deepestOf (listOf codes generations count)
 number-listed rules codes count fit fits generations u v code l =
-    let a = nth-below (l .head .marks) (suc (l .j)) (l .mark) (l .to) in
-    let w = made-width (l .rule) (shapeNo codes (l .s)) (shapeNo codes (l .t)) (l .head) (l .makes) in
-    let b : l .j < length (shapeNo codes (l .t) .pattern) = omega (arith, a .1, a .2, w) in
+    let a = mark-below (l .head) (l .j) (l .mark) (l .to) in
+    let w = ap (λ (u : Shape). length (u .pattern)) (sym (l .makes)) ∙ made-width (l .rule) (shapeNo codes (l .s)) (l .head) in
+    let b : l .j < length (shapeNo codes (l .t) .pattern) = omega arith in
     let i = in-numbersFrom (at generations) (7 * l .t + 1) (length (shapeNo codes (l .t) .pattern)) (l .j) b in
     let node : v ≡ 7 * l .t + 1 + l .j = omega (arith, l .to-is) in
     let here = entryAt codes (at generations) (l .t) in

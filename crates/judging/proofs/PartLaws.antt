@@ -15,10 +15,10 @@ use lib.Seq.{drop-cons, take-suc, getD-set-same, getD-set-other}
 use Rattle.chase.specs.Lists.{In, All}
 use Rattle.chase.specs.Rules.{Head, Rule, marksOf}
 use Rattle.chase.specs.Making.{has, carriedMarks}
-use Rattle.chase.proofs.MakingLaws.{carried-in, in-carried}
+use Rattle.chase.proofs.CodedLaws.{carried-in, in-carried}
 use Rattle.judging.specs.inner.Table.{later, firstPlace, flag, sourceAt, MarksFit, HeadFits, RuleFits}
 use Rattle.judging.specs.inner.Bytes.{marksAt, headAt, headsAt, ruleAt, LineIn, lineByte, headByte, byteOf, Blank, Part, markByte, placeByte, placeIn, PlacesFit, sourceOnce, sourceAfter, sourcesWith, HeadsPut, RowPut}
-use Rattle.judging.proofs.Sources.{Source, nothing, first, first-within, first-in, first-at, source-is, no-source, carried-source}
+use Rattle.judging.proofs.Sources.{bodyPlace, place-within, placed-stands, stands-placed, Source, nothing, first, source-is, no-source, carried-source}
 use Rattle.judging.proofs.ByteLaws.{Counts, counts-begun, counts-done, counts-stop, counts-more, mark-there, marks-small, past, past-none, past-later, head-byte, no-head-byte, length-headsAt, byte-line, byte-place, byte-source, byte-head, byte-heads, byte-unused}
 
 -- ---- parts
@@ -353,32 +353,32 @@ flag-cases true = inl refl
 flag-cases false = inr refl
 
 module _ (r : Rule) where
-  not-first : (m : ℕ) → In m (carriedMarks r) → firstPlace m (r .marks) ≡ 0 → ⊥
-  not-first m i e = let f = first-at m (r .marks) (carried-in r m i .0) .1 in omega arith
+  not-first : (m : ℕ) → In m (carriedMarks r) → bodyPlace r m ≡ 0 → ⊥
+  not-first m i e = omega (arith, stands-placed r m (carried-in r m i .0))
 
   -- A mark of an H line with a place is carried.
-  placed-carried : (m k : ℕ) → In m (marksOf (r .heads)) → firstPlace m (r .marks) ≡ suc k → In m (carriedMarks r)
-  placed-carried m k h e = in-carried r m (first-in m (r .marks) (omega arith)) h
+  placed-carried : (m k : ℕ) → In m (marksOf (r .heads)) → bodyPlace r m ≡ suc k → In m (carriedMarks r)
+  placed-carried m k h e = in-carried r m (placed-stands r m (omega arith)) h
 
-  from-zero : (cs : List ℕ) → carriedMarks r ≡ cs → sourceAfter (λ m. firstPlace m (r .marks)) (marksOf (r .heads)) 0 1 ≡ sourceAt r 0
-  from-zero [] e = after-empty (λ m. firstPlace m (r .marks)) (marksOf (r .heads)) 1 (λ m h. go m h (firstPlace m (r .marks)) refl) ∙ sym (no-source r e)
+  from-zero : (cs : List ℕ) → carriedMarks r ≡ cs → sourceAfter (bodyPlace r) (marksOf (r .heads)) 0 1 ≡ sourceAt r 0
+  from-zero [] e = after-empty (bodyPlace r) (marksOf (r .heads)) 1 (λ m h. go m h (bodyPlace r m) refl) ∙ sym (no-source r e)
     where
-      go : (m : ℕ) → In m (marksOf (r .heads)) → (k : ℕ) → firstPlace m (r .marks) ≡ k → firstPlace m (r .marks) ≡ 0
+      go : (m : ℕ) → In m (marksOf (r .heads)) → (k : ℕ) → bodyPlace r m ≡ k → bodyPlace r m ≡ 0
       go m h zero q = q
       go m h (suc k) q = absurd (subst (λ (l : List ℕ). In m l) e (placed-carried m k h q))
   from-zero (m ∷ cs) e =
       let i : In m (carriedMarks r) = subst (λ (l : List ℕ). In m l) (sym e) (inl refl) in
-      after-some (λ m. firstPlace m (r .marks)) (marksOf (r .heads)) m 1 (carried-in r m i .1) (not-first m i) ∙ sym (rw e)
+      after-some (bodyPlace r) (marksOf (r .heads)) m 1 (carried-in r m i .1) (not-first m i) ∙ sym (rw e)
 
   from-place : (i : ℕ) → (sourceAt r (suc i) ≡ 1) ⊎ (sourceAt r (suc i) ≡ 0)
-      → sourceAfter (λ m. firstPlace m (r .marks)) (marksOf (r .heads)) (suc i) 0 ≡ sourceAt r (suc i)
+      → sourceAfter (bodyPlace r) (marksOf (r .heads)) (suc i) 0 ≡ sourceAt r (suc i)
   from-place i (inl e) = go (source-is r (suc i) e) ∙ sym e
     where
-      go : Source r (suc i) → sourceAfter (λ m. firstPlace m (r .marks)) (marksOf (r .heads)) (suc i) 0 ≡ 1
+      go : Source r (suc i) → sourceAfter (bodyPlace r) (marksOf (r .heads)) (suc i) 0 ≡ 1
       go (nothing z c) = absurd (omega arith)
-      go (first m c p) = after-there (λ m. firstPlace m (r .marks)) (marksOf (r .heads)) i m 0 (carried-in r m c .1) (sym p)
+      go (first m c p) = after-there (bodyPlace r) (marksOf (r .heads)) i m 0 (carried-in r m c .1) (sym p)
   from-place i (inr e) =
-      after-other (λ m. firstPlace m (r .marks)) (marksOf (r .heads)) i 0
+      after-other (bodyPlace r) (marksOf (r .heads)) i 0
       (λ m h q.
       let s = carried-source r m (placed-carried m i h q) in
       let t = ap (sourceAt r) q in
@@ -386,11 +386,11 @@ module _ (r : Rule) where
       omega arith)
       ∙ sym e
 
-  pub sources-all : (p : ℕ) → sourceAfter (λ m. firstPlace m (r .marks)) (marksOf (r .heads)) p (flag (eqb p 0)) ≡ sourceAt r p
+  pub sources-all : (p : ℕ) → sourceAfter (bodyPlace r) (marksOf (r .heads)) p (flag (eqb p 0)) ≡ sourceAt r p
   sources-all zero = from-zero (carriedMarks r) refl
   sources-all (suc i) =
-      ap (λ (t : Bool). sourceAfter (λ m. firstPlace m (r .marks)) (marksOf (r .heads)) (suc i) (flag t)) (ne-eqb (suc i) 0 (λ e. omega arith))
-      ∙ from-place i (flag-cases (eqb (firstPlace (getD (r .marks) i 0) (r .marks)) (suc i) && has (getD (r .marks) i 0) (marksOf (r .heads))))
+      ap (λ (t : Bool). sourceAfter (bodyPlace r) (marksOf (r .heads)) (suc i) (flag t)) (ne-eqb (suc i) 0 (λ e. omega arith))
+      ∙ from-place i (flag-cases (eqb (bodyPlace r (getD (r .marks) i 0)) (suc i) && has (getD (r .marks) i 0) (marksOf (r .heads))))
 
 -- ---- H lines
 
@@ -500,7 +500,7 @@ pub record BodyPut (before : List ℕ) (at : ℕ) (rule : Rule) (after : List �
   pub below : (j : ℕ) → j < at → getD after j 0 ≡ getD before j 0
   pub above : (j : ℕ) → at + 29 ≤ j → getD after j 0 ≡ getD before j 0
   pub line : (i : ℕ) → i < 8 → getD after (at + i) 0 ≡ lineByte (rule .kind) (rule .marks) i
-  pub places : (m : ℕ) → m ≤ 12 → placeIn after at m ≡ firstPlace m (rule .marks)
+  pub places : (m : ℕ) → m ≤ 12 → placeIn after at m ≡ bodyPlace rule m
   pub sources : (p : ℕ) → p < 7 → getD after (at + 21 + p) 0 ≡ flag (eqb p 0)
   pub count : getD after (at + 28) 0 ≡ length (rule .heads)
 
@@ -536,7 +536,7 @@ module _ {before : List ℕ} {at : ℕ} (rule : Rule) {line places : List ℕ} (
 module _ {before : List ℕ} {at : ℕ} {rule : Rule} {after : List ℕ} (blank : Blank before at) (fits : RuleFits rule) (b : BodyPut before at rule after) where
   pub body-places : PlacesFit after at
   body-places =
-      record { small = λ m h. subst (λ k. k ≤ 6) (sym (b .places m h)) (let few = fits .marks .few in omega (arith, first-within m (rule .marks))) }
+      record { small = λ m h. subst (λ k. k ≤ 6) (sym (b .places m h)) (let few = fits .marks .few in omega (arith, place-within rule m)) }
 
   pub body-blank : Blank after (at + 32)
   body-blank = record { each = λ j h. b .above j (omega arith) ∙ blank .each j (omega arith) }
@@ -554,9 +554,9 @@ module _ {before : List ℕ} (r : ℕ) {rule : Rule} {body after : List ℕ} (si
   rule-source : (k : ℕ) → k < 7 → getD after (64 * r + 21 + k) 0 ≡ sourceAt rule k
   rule-source k h =
       p .sources k h
-      ∙ after-same (placeIn body (64 * r)) (λ m. firstPlace m (rule .marks)) (marksOf (rule .heads)) (marks-fit (rule .heads) (fits .heads)) (b .places) k
+      ∙ after-same (placeIn body (64 * r)) (bodyPlace rule) (marksOf (rule .heads)) (marks-fit (rule .heads) (fits .heads)) (b .places) k
       (getD body (64 * r + 21 + k) 0)
-      ∙ ap (sourceAfter (λ m. firstPlace m (rule .marks)) (marksOf (rule .heads)) k) (b .sources k h) ∙ sources-all rule k
+      ∙ ap (sourceAfter (bodyPlace rule) (marksOf (rule .heads)) k) (b .sources k h) ∙ sources-all rule k
 
   -- A byte, by the part that it stands in.
   rule-byte : (i : ℕ) → i < 64 → Dec (i < 8) → Dec (i < 21) → Dec (i < 28) → Dec (i < 32) → Dec (i ≡ 28) → getD after (64 * r + i) 0 ≡ byteOf rule i

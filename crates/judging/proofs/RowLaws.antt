@@ -3,7 +3,7 @@ use mathlib.Core.Path.{_≡_, refl, sym, subst, subst₂, ap, _∙_}
 use mathlib.Core.Bool.{Bool, true, false, cond}
 use mathlib.Core.List.{List, [], _∷_, map}
 use mathlib.Core.Logic.{by-cases}
-use mathlib.Core.Option.{some, Option·none-ne-some}
+use mathlib.Core.Option.{some}
 use Prim.Native.Nat.{ℕ, zero, suc, _+_, _*_, _<_, _≤_}
 use native.Mathlib.Decide.{ℕ-discrete}
 use native.Mathlib.Numerals.{add-one}
@@ -24,10 +24,11 @@ use Rattle.chase.specs.Shape.{Shape, shapeOf}
 use Rattle.chase.specs.Counting.{MoreThan}
 use Rattle.chase.specs.Simplification.{Derived}
 use Rattle.chase.proofs.ShapeLaws.{pattern-map}
+use Rattle.chase.proofs.StepLaws.{nth-map}
 use Rattle.judging.specs.inner.Codes.{shapeAt, ShapeFits, CodeIs}
 use Rattle.judging.specs.inner.Table.{SheetHeld, linesIn, rowsIn, KindFits}
 use Rattle.judging.specs.inner.Found.{Has, viaRow}
-use Rattle.judging.specs.inner.Rows.{Clear, rowNumbers, RowAt, RowsFound, RowsTried}
+use Rattle.judging.specs.inner.Rows.{Clear, rowNumbers, RowAt, RowsFound}
 use Rattle.judging.proofs.CodeLaws.{pattern-fits}
 use Rattle.judging.proofs.SheetLaws.{lineNo, linesBefore, before-next, LentLine, lent-line, held-lines, size-held, rows-few}
 use Rattle.judging.proofs.Places.{nth-below}
@@ -45,13 +46,13 @@ pub row-fits : (line : Line) (code : ℕ) → CodeIs (line .kind) (pattern ℕ-d
 row-fits line code c kind one six = subst ShapeFits (sym (c .back)) (pattern-fits ℕ-discrete (line .kind) (line .numbers) kind one six)
 
 -- The rows' shapes.
-pub rows-begun : (rules : List Rule) (rows : List Record) (codes index parents makers headers : List ℕ) → length codes ≡ 512 → Clear index 17792
-    → length parents ≡ 512 → length makers ≡ 512 → length headers ≡ 512 → RowsFound rules rows codes index parents makers headers 0 0
-rows-begun rules rows codes index parents makers headers a i b c d =
+pub rows-begun : (rules : List Rule) (rows : List Record) (codes index : List ℕ) (ways : List (List ℕ)) → length codes ≡ 512 → Clear index 17792
+    → length ways ≡ 512 → RowsFound rules rows codes index ways 0 0
+rows-begun rules rows codes index ways a i b =
     record {
       kept =
           record {
-            sizes = (a, i .size, b, c, d);
+            sizes = (a, i .size, b);
             few = omega arith;
             small = λ k l. let z : ⊥ = omega arith in absurd z;
             fits = λ k l. let z : ⊥ = omega arith in absurd z;
@@ -62,8 +63,8 @@ rows-begun rules rows codes index parents makers headers a i b c d =
       rows-in = λ k x l e. let z : ⊥ = omega arith in absurd z;
     }
 
-module _ {rules : List Rule} {rows : List Record} {codes index parents makers headers : List ℕ} {n row : ℕ}
-    (found : RowsFound rules rows codes index parents makers headers n row) (x : Record) (named : nth rows (row + 1) ≡ some x) (code : ℕ) (is : shapeAt code ≡ shapeOf x) where
+module _ {rules : List Rule} {rows : List Record} {codes index : List ℕ} {ways : List (List ℕ)} {n row : ℕ}
+    (found : RowsFound rules rows codes index ways n row) (x : Record) (named : nth rows (row + 1) ≡ some x) (code : ℕ) (is : shapeAt code ≡ shapeOf x) where
   named-suc : nth rows (suc row) ≡ some x
   named-suc = rw add-one at named
 
@@ -77,17 +78,17 @@ module _ {rules : List Rule} {rows : List Record} {codes index parents makers he
       subst (λ (z : Record). Has codes' m (shapeOf z)) q (subst (Has codes' m) is here))
 
   -- A row's shape that was there.
-  pub row-seen : (getD index code 0 ≡ 0 → ⊥) → RowsFound rules rows codes index parents makers headers n (row + 1)
+  pub row-seen : (getD index code 0 ≡ 0 → ⊥) → RowsFound rules rows codes index ways n (row + 1)
   row-seen m = record { kept = found .kept; rows-in = λ k y l e. rows-next codes n (λ s h. h) (marked-has (found .kept) code m) k l y e }
 
   -- A row's shape put at the end.
   pub row-push : (n ≡ 512 → ⊥) → code < 17792 → ShapeFits (shapeAt code) → getD index code 0 ≡ 0
-      → RowsFound rules rows (set codes n code) (set index code (n + 1)) (set parents n 0) (set makers n (row + 1)) (set headers n 0) (n + 1) (row + 1)
+      → RowsFound rules rows (set codes n code) (set index code (n + 1)) (set ways n (0 ∷ (row + 1) ∷ 0 ∷ [])) (n + 1) (row + 1)
   row-push ne small fit z =
       let room = room-of (found .kept) ne in
       record {
         kept =
-            kept-push (found .kept) code 0 (row + 1) 0 ne small fit z
+            kept-push (found .kept) code (0 ∷ (row + 1) ∷ 0 ∷ []) ne small fit z
             (viaRow x refl named (new-shape codes n code room ∙ is));
         rows-in =
             λ k y l e. rows-next (set codes n code) (n + 1) (λ s h. has-more codes n code room h) (has-last codes n code room) k l y e;
@@ -152,11 +153,6 @@ rows-same (k ∷ ls) (suc n) l e = go (eqb (k .letter) 82) (rows-same ls n (omeg
         → length (cond b (k ∷ rowLines (take (suc n) ls)) (rowLines (take (suc n) ls))) ≡ length (cond b (k ∷ rowLines (take n ls)) (rowLines (take n ls)))
     go true ih = ap suc ih
     go false ih = ih
-
-nth-map : {A B : Type 0} (f : A → B) (xs : List A) (n : ℕ) (x : A) → nth xs (suc n) ≡ some x → nth (map f xs) (suc n) ≡ some (f x)
-nth-map f [] n x e = absurd (Option·none-ne-some x e)
-nth-map f (y ∷ xs) zero x e = let q : y ≡ x = cc in rw q
-nth-map f (y ∷ xs) (suc n) x e = nth-map f xs n x e
 
 -- Where the reading of the lines stands: at line n, after so many rows.
 pub record Reading (numbers widths : List ℕ) (row n : ℕ) : Type 0 where
@@ -237,7 +233,7 @@ module _ (numbers widths : List ℕ) (row n : ℕ) (sheet : SheetHeld numbers) (
       record {
         line = line;
         size = held .whole;
-        named = rw add-one (nth-map rowRecord (rowLines ls) row line named);
+        named = rw add-one (nth-map rowRecord (rowLines ls) (suc row) line named);
         low = omega arith;
         kind = held .kind;
         kind-fits = held .fits .kind;
@@ -256,8 +252,8 @@ read-all numbers widths row n sheet at all =
     ∙ sym (length-map (rowLines (linesIn numbers)) rowRecord)
 
 -- A row is tried.
-module _ {rules : List Rule} {numbers codes index parents makers headers : List ℕ} {n width row count : ℕ} (row-is : RowAt numbers n width (row + 1))
-    (found : RowsFound rules (rowsIn numbers) codes index parents makers headers count row) (code : ℕ)
+module _ {rules : List Rule} {numbers codes index : List ℕ} {ways : List (List ℕ)} {n width row count : ℕ} (row-is : RowAt numbers n width (row + 1))
+    (found : RowsFound rules (rowsIn numbers) codes index ways count row) (code : ℕ)
     (is : CodeIs (getD numbers (8 * n + 1) 0) (pattern ℕ-discrete (rowNumbers numbers n width)) code) where
   line-code : CodeIs (row-is .line .kind) (pattern ℕ-discrete (row-is .line .numbers)) code
   line-code = subst₂ (λ (k : ℕ) (ns : List ℕ). CodeIs k (pattern ℕ-discrete ns) code) (row-is .kind) (row-is .numbers-are) is
@@ -278,38 +274,17 @@ module _ {rules : List Rule} {numbers codes index parents makers headers : List 
       let f = row-is .few-width in
       row-fits (row-is .line) code line-code (row-is .kind-fits) (omega arith) (omega arith)
 
-  pub tried-seen : (getD index code 0 ≡ 0 → ⊥) → RowsTried rules (rowsIn numbers) codes index parents makers headers count (row + 1)
-  tried-seen m =
-      record {
-        found = λ l. row-seen found (rowRecord (row-is .line)) (row-is .named) code line-shape m;
-        more = λ l. let f = found .kept .few in let z : ⊥ = omega arith in absurd z;
-      }
+  pub tried-seen : (getD index code 0 ≡ 0 → ⊥) → RowsFound rules (rowsIn numbers) codes index ways count (row + 1)
+  tried-seen m = row-seen found (rowRecord (row-is .line)) (row-is .named) code line-shape m
 
   pub tried-push : (count ≡ 512 → ⊥) → getD index code 0 ≡ 0
-      → RowsTried rules (rowsIn numbers) (set codes count code) (set index code (count + 1)) (set parents count 0) (set makers count (row + 1)) (set headers count 0) (count + 1) (row + 1)
-  tried-push ne z =
-      record {
-        found = λ l. row-push found (rowRecord (row-is .line)) (row-is .named) code line-shape ne (is .small) line-fits z;
-        more = λ l. let f = found .kept .few in let y : ⊥ = omega (arith, ne) in absurd y;
-      }
+      → RowsFound rules (rowsIn numbers) (set codes count code) (set index code (count + 1)) (set ways count (0 ∷ (row + 1) ∷ 0 ∷ [])) (count + 1) (row + 1)
+  tried-push ne z = row-push found (rowRecord (row-is .line)) (row-is .named) code line-shape ne (is .small) line-fits z
 
-  pub tried-more : count ≡ 512 → getD index code 0 ≡ 0 → RowsTried rules (rowsIn numbers) codes index parents makers headers 513 (row + 1)
-  tried-more full z =
-      record {
-        found = λ l. let y : ⊥ = omega arith in absurd y;
-        more = λ l. row-more found (rowRecord (row-is .line)) (row-is .named) code line-shape full (is .small) z;
-      }
+  pub tried-more : count ≡ 512 → getD index code 0 ≡ 0 → MoreThan (Derived rules (rowsIn numbers)) 512
+  tried-more full z = row-more found (rowRecord (row-is .line)) (row-is .named) code line-shape full (is .small) z
 
--- All rows are tried, or there is no room for more shapes.
-pub tried-all : {rules : List Rule} {rows : List Record} {codes index parents makers headers : List ℕ} {n row : ℕ}
-    → RowsFound rules rows codes index parents makers headers n row → n ≤ 512 → row ≡ length rows
-    → RowsTried rules rows codes index parents makers headers n (length rows)
-tried-all {rules} {rows} {codes} {index} {parents} {makers} {headers} {n} found few e =
-    record {
-      found = λ l. subst (RowsFound rules rows codes index parents makers headers n) e found;
-      more = λ l. let z : ⊥ = omega arith in absurd z;
-    }
-
-pub tried-over : {rules : List Rule} {rows : List Record} {codes index parents makers headers : List ℕ} {n row : ℕ} (all : ℕ)
-    → RowsTried rules rows codes index parents makers headers n row → 512 < n → RowsTried rules rows codes index parents makers headers n all
-tried-over all tried over = record { found = λ l. let z : ⊥ = omega arith in absurd z; more = tried .more }
+-- All rows are tried.
+pub tried-all : {rules : List Rule} {rows : List Record} {codes index : List ℕ} {ways : List (List ℕ)} {n row : ℕ}
+    → RowsFound rules rows codes index ways n row → row ≡ length rows → RowsFound rules rows codes index ways n (length rows)
+tried-all {rules} {rows} {codes} {index} {ways} {n} found e = subst (RowsFound rules rows codes index ways n) e found

@@ -8,8 +8,8 @@ use Prim.Native.Nat.{ℕ, zero, suc, _+_, _-_, _*_, _/_, _%_, _<_, _≤_}
 use native.Mathlib.Decide.{ℕ-discrete, decLt}
 use native.Mathlib.Numerals.{add-one}
 use native.Mathlib.Omega.{arith}
-use lib.ListN.{length, getD, set, take, drop, length-set}
-use lib.Seq.{getD-set-same, getD-set-other, drop-drop}
+use lib.ListN.{length, getD, set, length-set}
+use lib.Seq.{getD-set-same, getD-set-other}
 use Rattle.patterns.specs.Pattern.{digitsOf}
 use Rattle.patterns.specs.Outcome.{padded}
 use Rattle.chase.specs.Lists.{In}
@@ -20,21 +20,15 @@ use Rattle.chase.specs.Counting.{MoreThan}
 use Rattle.chase.specs.Simplification.{Applies, Derived}
 use Rattle.judging.specs.inner.Codes.{shapeAt, ShapeFits, shapeFrom, DigitsFit, FiresOn, MadeOf}
 use Rattle.judging.specs.inner.Firing.{NextFire}
-use Rattle.judging.specs.inner.Table.{headsIn, ruleIn, rowBytes, tableRules, TableFits}
-use Rattle.judging.specs.inner.Found.{shapeNo, Has, viaRule, Kept, Whole, FiredMarks}
+use Rattle.judging.specs.inner.Table.{ruleIn, rowBytes, tableRules, TableFits}
+use Rattle.judging.specs.inner.Found.{shapeNo, Has, viaRule, Kept, Whole, FiredRules}
 use Rattle.judging.specs.inner.Rows.{Clear, RowsFound}
+use Rattle.chase.proofs.CountLaws.{element-below}
+use Rattle.chase.proofs.CodedLaws.{derived-coded}
 use Rattle.judging.proofs.CodeLaws.{digits-at, digits-fit}
-use Rattle.judging.proofs.Places.{in-nth, nth-below}
-use Rattle.judging.proofs.FoundLaws.{old, old-shape, new-shape, has-more, has-last, room-of, marked-has, kept-push, more-than, kept-derived, derived-made}
-
--- Elements by their numbers.
-nth-lt : {A : Type 0} (xs : List A) (n : ℕ) (x : A) → nth xs (suc n) ≡ some x → n < length xs
-nth-lt xs n x e = let b = nth-below xs (suc n) x e in omega arith
-
-nth-there : {A : Type 0} (xs : List A) (n : ℕ) → n < length xs → (x : A) × (nth xs (suc n) ≡ some x)
-nth-there [] n l = absurd (omega arith)
-nth-there (y ∷ xs) zero l = (y, refl)
-nth-there (y ∷ xs) (suc n) l = nth-there xs n (omega arith)
+use Rattle.judging.proofs.Places.{in-nth, nth-there}
+use Rattle.judging.proofs.RuleLaws.{table-rule, table-count, heads-length}
+use Rattle.judging.proofs.FoundLaws.{old, old-shape, new-shape, has-more, has-last, room-of, marked-has, kept-push, more-than, kept-derived}
 
 -- The turn at which H line j of rule m is tried on shape k, all counted from 0.
 abbrev pub turn : ℕ → ℕ → ℕ → ℕ
@@ -46,8 +40,8 @@ pub record Few (rules : List Rule) : Type 0 where
   pub heads-few : (m : ℕ) (r : Rule) → nth rules m ≡ some r → length (r .heads) ≤ 4
 
 -- Where the search stands: H lines were tried up to turn t, and rules up to turn 4 * u.
-pub record Doing (rules : List Rule) (rows : List Record) (codes index parents makers headers fired : List ℕ) (n t u : ℕ) : Type 0 where
-  pub kept : Kept rules rows codes index parents makers headers n
+pub record Doing (rules : List Rule) (rows : List Record) (codes index : List ℕ) (ways : List (List ℕ)) (fired : List ℕ) (n t u : ℕ) : Type 0 where
+  pub kept : Kept rules rows codes index ways n
   pub rows-in : (x : Record) → In x rows → Has codes n (shapeOf x)
   pub made : (k m j : ℕ) (r : Rule) (h : Head) → k < n → turn k m j < t → nth rules (suc m) ≡ some r → Applies r (shapeNo codes k)
       → nth (r .heads) (suc j) ≡ some h → Has codes n (shapeFrom r (shapeNo codes k) h)
@@ -56,27 +50,27 @@ pub record Doing (rules : List Rule) (rows : List Record) (codes index parents m
   pub complete : (i k : ℕ) (r : Rule) → k < n → 256 * k + i < u → nth rules (suc i) ≡ some r → Applies r (shapeNo codes k) → getD fired i 0 ≡ 1
 
 -- The rows' shapes, and nothing tried.
-pub doing-begun : {rules : List Rule} {rows : List Record} {codes index parents makers headers : List ℕ} {n : ℕ} (fired : List ℕ)
-    → RowsFound rules rows codes index parents makers headers n (length rows) → Clear fired 256
-    → Doing rules rows codes index parents makers headers fired n (turn 0 0 0) (256 * 0)
+pub doing-begun : {rules : List Rule} {rows : List Record} {codes index : List ℕ} {ways : List (List ℕ)} {n : ℕ} (fired : List ℕ)
+    → RowsFound rules rows codes index ways n (length rows) → Clear fired 256
+    → Doing rules rows codes index ways fired n (turn 0 0 0) (256 * 0)
 doing-begun {rows = rows} fired found clear =
     record {
       kept = found .kept;
-      rows-in = λ x i. let s = in-nth rows x i in found .rows-in (s .0) x (nth-lt rows (s .0) x (s .1)) (s .1);
+      rows-in = λ x i. let s = in-nth rows x i in found .rows-in (s .0) x (element-below rows (s .0) x (s .1)) (s .1);
       made = λ k m j r h a b e f g. let z : ⊥ = omega arith in absurd z;
       size = clear .size;
       sound = λ i m. absurd (m (clear .zeros i));
       complete = λ i k r a b e f. let z : ⊥ = omega arith in absurd z;
     }
 
-module _ {rules : List Rule} {rows : List Record} {codes index parents makers headers fired : List ℕ} {n t u : ℕ} (few : Few rules)
-    (d : Doing rules rows codes index parents makers headers fired n t u) where
+module _ {rules : List Rule} {rows : List Record} {codes index : List ℕ} {ways : List (List ℕ)} {fired : List ℕ} {n t u : ℕ} (few : Few rules)
+    (d : Doing rules rows codes index ways fired n t u) where
   -- More was tried: from turn (s, r, h) on, within rule r.
   doing-on : (s r h t' u' : ℕ) → r < 256 → h ≤ 4 → turn s r h ≤ t → t' ≤ turn s (r + 1) 0
       → ((j : ℕ) (w : Rule) (g : Head) → h ≤ j → turn s r j < t' → nth rules (suc r) ≡ some w → Applies w (shapeNo codes s) → nth (w .heads) (suc j) ≡ some g
       → Has codes n (shapeFrom w (shapeNo codes s) g))
       → ((i k : ℕ) (w : Rule) → k < n → 256 * k + i < u' → nth rules (suc i) ≡ some w → Applies w (shapeNo codes k) → getD fired i 0 ≡ 1)
-      → Doing rules rows codes index parents makers headers fired n t' u'
+      → Doing rules rows codes index ways fired n t' u'
   doing-on s r h t' u' low high begin end new marks =
       record {
         kept = d .kept;
@@ -87,9 +81,9 @@ module _ {rules : List Rule} {rows : List Record} {codes index parents makers he
             (λ (y : turn k m j < t). d .made k m j w g a y named applies line)
             (λ (z : turn k m j < t → ⊥).
             let b1 = few .rules-few in
-            let b2 = nth-lt rules m w named in
+            let b2 = element-below rules m w named in
             let b3 = few .heads-few (suc m) w named in
-            let b4 = nth-lt (w .heads) j g line in
+            let b4 = element-below (w .heads) j g line in
             let z' : t ≤ turn k m j = omega (arith, z) in
             let p : k ≡ s = omega arith in
             let q : m ≡ r = omega arith in
@@ -109,12 +103,12 @@ module _ {rules : List Rule} {rows : List Record} {codes index parents makers he
 
   -- What an H line makes is there.
   pub doing-there : (s r h : ℕ) (w : Rule) (g : Head) → t ≡ turn s r h → nth rules (suc r) ≡ some w → nth (w .heads) (suc h) ≡ some g
-      → Has codes n (shapeFrom w (shapeNo codes s) g) → Doing rules rows codes index parents makers headers fired n (turn s r (h + 1)) u
+      → Has codes n (shapeFrom w (shapeNo codes s) g) → Doing rules rows codes index ways fired n (turn s r (h + 1)) u
   doing-there s r h w g at-t named line there =
       let b1 = few .rules-few in
-      let b2 = nth-lt rules r w named in
+      let b2 = element-below rules r w named in
       let b3 = few .heads-few (suc r) w named in
-      let b4 = nth-lt (w .heads) h g line in
+      let b4 = element-below (w .heads) h g line in
       doing-on s r h (turn s r (h + 1)) u (omega arith) (omega arith) (omega arith) (omega arith)
       (λ j v f a b e applies l.
       let q : j ≡ h = omega arith in
@@ -126,10 +120,10 @@ module _ {rules : List Rule} {rows : List Record} {codes index parents makers he
 
   -- The rule does not fire on the shape.
   pub doing-still : (s r : ℕ) (w : Rule) → t ≡ turn s r 0 → u ≡ 256 * s + r → nth rules (suc r) ≡ some w → (Applies w (shapeNo codes s) → ⊥)
-      → Doing rules rows codes index parents makers headers fired n (turn s (r + 1) 0) (256 * s + (r + 1))
+      → Doing rules rows codes index ways fired n (turn s (r + 1) 0) (256 * s + (r + 1))
   doing-still s r w at-t at-u named not =
       let b1 = few .rules-few in
-      let b2 = nth-lt rules r w named in
+      let b2 = element-below rules r w named in
       doing-on s r 0 (turn s (r + 1) 0) (256 * s + (r + 1)) (omega arith) (omega arith) (omega arith) (omega arith)
       (λ j v g a b e f l. absurd (not (subst (λ (y : Rule). Applies y (shapeNo codes s)) (same-rule r v w e named) f)))
       (λ i k v a b e f.
@@ -137,7 +131,7 @@ module _ {rules : List Rule} {rows : List Record} {codes index parents makers he
       (λ (y : 256 * k + i < u). d .complete i k v a y e f)
       (λ (z : 256 * k + i < u → ⊥).
       let z' : u ≤ 256 * k + i = omega (arith, z) in
-      let b3 = nth-lt rules i v e in
+      let b3 = element-below rules i v e in
       let p : k ≡ s = omega arith in
       let q : i ≡ r = omega arith in
       absurd
@@ -147,20 +141,20 @@ module _ {rules : List Rule} {rows : List Record} {codes index parents makers he
 
   -- All H lines of the rule were tried.
   pub doing-rule : (s r h : ℕ) (w : Rule) → t ≡ turn s r h → u ≡ 256 * s + r + 1 → nth rules (suc r) ≡ some w → length (w .heads) ≤ h → h ≤ 4
-      → Doing rules rows codes index parents makers headers fired n (turn s (r + 1) 0) (256 * s + (r + 1))
+      → Doing rules rows codes index ways fired n (turn s (r + 1) 0) (256 * s + (r + 1))
   doing-rule s r h w at-t at-u named all high =
       let b1 = few .rules-few in
-      let b2 = nth-lt rules r w named in
+      let b2 = element-below rules r w named in
       doing-on s r h (turn s (r + 1) 0) (256 * s + (r + 1)) (omega arith) high (omega arith) (omega arith)
       (λ j v g a b e f l.
-      let q = nth-lt (v .heads) j g l in
+      let q = element-below (v .heads) j g l in
       let p = ap (λ (y : Rule). length (y .heads)) (same-rule r v w e named) in
       let z : ⊥ = omega arith in absurd z)
       (λ i k v a b e f. d .complete i k v a (omega arith) e f)
 
   -- All rules were tried.
   pub doing-shape : (s r : ℕ) → t ≡ turn s r 0 → u ≡ 256 * s + r → length rules ≤ r → r ≤ 256
-      → Doing rules rows codes index parents makers headers fired n (turn (s + 1) 0 0) (256 * (s + 1))
+      → Doing rules rows codes index ways fired n (turn (s + 1) 0 0) (256 * (s + 1))
   doing-shape s r at-t at-u all high =
       record {
         kept = d .kept;
@@ -168,27 +162,27 @@ module _ {rules : List Rule} {rows : List Record} {codes index parents makers he
         made =
             λ k m j w g a b named applies line.
             let b1 = few .rules-few in
-            let b2 = nth-lt rules m w named in
+            let b2 = element-below rules m w named in
             let b3 = few .heads-few (suc m) w named in
-            let b4 = nth-lt (w .heads) j g line in
+            let b4 = element-below (w .heads) j g line in
             d .made k m j w g a (omega arith) named applies line;
         size = d .size;
         sound = d .sound;
-        complete = λ i k v a b e f. let b2 = nth-lt rules i v e in d .complete i k v a (omega arith) e f;
+        complete = λ i k v a b e f. let b2 = element-below rules i v e in d .complete i k v a (omega arith) e f;
       }
 
   -- What an H line makes was there.
   pub doing-seen : (s r h code : ℕ) (w : Rule) (g : Head) → t ≡ turn s r h → nth rules (suc r) ≡ some w → nth (w .heads) (suc h) ≡ some g
       → shapeAt code ≡ shapeFrom w (shapeNo codes s) g → (getD index code 0 ≡ 0 → ⊥)
-      → Doing rules rows codes index parents makers headers fired n (turn s r (h + 1)) u
+      → Doing rules rows codes index ways fired n (turn s r (h + 1)) u
   doing-seen s r h code w g at-t named line is m = doing-there s r h w g at-t named line (subst (Has codes n) is (marked-has (d .kept) code m))
 
   -- The rule fires on the shape.
   pub doing-fires : (s r : ℕ) (w : Rule) → u ≡ 256 * s + r → s < n → nth rules (suc r) ≡ some w → Applies w (shapeNo codes s)
-      → Doing rules rows codes index parents makers headers (set fired r 1) n t (256 * s + r + 1)
+      → Doing rules rows codes index ways (set fired r 1) n t (256 * s + r + 1)
   doing-fires s r w at-u low named applies =
       let b1 = few .rules-few in
-      let b2 = nth-lt rules r w named in
+      let b2 = element-below rules r w named in
       let b3 = d .size in
       record {
         kept = d .kept;
@@ -211,13 +205,13 @@ module _ {rules : List Rule} {rows : List Record} {codes index parents makers he
             by-cases (ℕ-discrete i r)
             (λ (q : i ≡ r). subst (λ (y : ℕ). getD (set fired r 1) y 0 ≡ 1) (sym q) (getD-set-same fired r 1 0 (omega arith)))
             (λ (q : i ≡ r → ⊥).
-            let b4 = nth-lt rules i v e in
+            let b4 = element-below rules i v e in
             getD-set-other fired r i 1 0 q ∙ d .complete i k v a (let y : 256 * k + i < u = omega (arith, q) in y) e f);
       }
 
   -- No more shapes are left to try.
   pub doing-all : (s : ℕ) → t ≡ turn s 0 0 → u ≡ 256 * s → n ≤ s
-      → Kept rules rows codes index parents makers headers n × Whole rules rows codes n × FiredMarks rules codes fired n
+      → Kept rules rows codes index ways n × Whole rules rows codes n × FiredRules rules codes fired n
   doing-all s at-t at-u all = (
     d .kept,
     record {
@@ -227,10 +221,10 @@ module _ {rules : List Rule} {rows : List Record} {codes index parents makers he
           let q = in-nth (r .heads) h i in
           let b1 = few .rules-few in
           let b3 = few .heads-few m r named in
-          let b4 = nth-lt (r .heads) (q .0) h (q .1) in
+          let b4 = element-below (r .heads) (q .0) h (q .1) in
           let p = named-from m r named in
           let e : nth rules (suc (p .0)) ≡ some r = subst (λ (y : ℕ). nth rules y ≡ some r) (p .1) named in
-          let b2 = nth-lt rules (p .0) r e in
+          let b2 = element-below rules (p .0) r e in
           d .made k (p .0) (q .0) r h low (omega arith) e applies (q .1);
     },
     record {
@@ -239,17 +233,17 @@ module _ {rules : List Rule} {rows : List Record} {codes index parents makers he
       complete =
           λ i k r e low f.
           let b1 = few .rules-few in
-          let b2 = nth-lt rules i r e in
+          let b2 = element-below rules i r e in
           d .complete i k r low (omega arith) e f;
     },
   )
 
 -- A shape put at the end, of a turn that is before all of its own.
-pub doing-room : {rules : List Rule} {rows : List Record} {codes index parents makers headers fired : List ℕ} {n t u : ℕ}
-    → Doing rules rows codes index parents makers headers fired n t u → (code parent maker header : ℕ) → (n ≡ 512 → ⊥) → t ≤ 1024 * n → u ≤ 256 * n
-    → Kept rules rows (set codes n code) (set index code (n + 1)) (set parents n parent) (set makers n maker) (set headers n header) (n + 1)
-    → Doing rules rows (set codes n code) (set index code (n + 1)) (set parents n parent) (set makers n maker) (set headers n header) fired (n + 1) t u
-doing-room {codes = codes} {n = n} {t = t} {u = u} d code parent maker header ne low-t low-u kept =
+pub doing-room : {rules : List Rule} {rows : List Record} {codes index : List ℕ} {ways : List (List ℕ)} {fired : List ℕ} {n t u : ℕ}
+    → Doing rules rows codes index ways fired n t u → (code : ℕ) (way : List ℕ) → (n ≡ 512 → ⊥) → t ≤ 1024 * n → u ≤ 256 * n
+    → Kept rules rows (set codes n code) (set index code (n + 1)) (set ways n way) (n + 1)
+    → Doing rules rows (set codes n code) (set index code (n + 1)) (set ways n way) fired (n + 1) t u
+doing-room {codes = codes} {n = n} {t = t} {u = u} d code way ne low-t low-u kept =
     let room = room-of (d .kept) ne in
     record {
       kept = kept;
@@ -273,64 +267,44 @@ doing-room {codes = codes} {n = n} {t = t} {u = u} d code parent maker header ne
     }
 
 -- What an H line makes, put at the end.
-pub doing-push : {rules : List Rule} {rows : List Record} {codes index parents makers headers fired : List ℕ} {n t u : ℕ} → Few rules
-    → Doing rules rows codes index parents makers headers fired n t u
+pub doing-push : {rules : List Rule} {rows : List Record} {codes index : List ℕ} {ways : List (List ℕ)} {fired : List ℕ} {n t u : ℕ} → Few rules
+    → Doing rules rows codes index ways fired n t u
     → (s r h code : ℕ) (w : Rule) (g : Head) → t ≡ turn s r h → u ≡ 256 * s + r + 1 → s < n → nth rules (suc r) ≡ some w → nth (w .heads) (suc h) ≡ some g
     → Applies w (shapeNo codes s) → shapeAt code ≡ shapeFrom w (shapeNo codes s) g → (n ≡ 512 → ⊥) → code < 17792 → ShapeFits (shapeAt code) → getD index code 0 ≡ 0
-    → Doing rules rows (set codes n code) (set index code (n + 1)) (set parents n (s + 1)) (set makers n (r + 1)) (set headers n (h + 1)) fired (n + 1) (turn s r (h + 1)) u
+    → Doing rules rows (set codes n code) (set index code (n + 1)) (set ways n ((s + 1) ∷ (r + 1) ∷ (h + 1) ∷ [])) fired (n + 1) (turn s r (h + 1)) u
 doing-push {rules} {codes = codes} {n = n} {t = t} {u = u} few d s r h code w g at-t at-u low named line applies is ne small fit z =
     let b1 = few .rules-few in
-    let b2 = nth-lt rules r w named in
+    let b2 = element-below rules r w named in
     let b3 = few .heads-few (suc r) w named in
-    let b4 = nth-lt (w .heads) h g line in
+    let b4 = element-below (w .heads) h g line in
     let room = room-of (d .kept) ne in
     let o = old-shape codes n code room s low in
     let is' : shapeAt code ≡ shapeFrom w (shapeNo (set codes n code) s) g = is ∙ ap (λ (v : Shape). shapeFrom w v g) (sym o) in
     doing-there few
-    (doing-room d code (s + 1) (r + 1) (h + 1) ne (omega arith) (omega arith)
-    (kept-push (d .kept) code (s + 1) (r + 1) (h + 1) ne small fit z
+    (doing-room d code ((s + 1) ∷ (r + 1) ∷ (h + 1) ∷ []) ne (omega arith) (omega arith)
+    (kept-push (d .kept) code ((s + 1) ∷ (r + 1) ∷ (h + 1) ∷ []) ne small fit z
     (viaRule s w g (add-one s) low (rw add-one named) (rw add-one line) (subst (Applies w) (sym o) applies) (new-shape codes n code room ∙ is'))))
     s r h w g at-t named line
     (subst (Has (set codes n code) (n + 1)) is' (has-last codes n code room))
 
 -- There is no room for what an H line makes.
-pub doing-more : {rules : List Rule} {rows : List Record} {codes index parents makers headers fired : List ℕ} {n t u : ℕ}
-    → Doing rules rows codes index parents makers headers fired n t u
+pub doing-more : {rules : List Rule} {rows : List Record} {codes index : List ℕ} {ways : List (List ℕ)} {fired : List ℕ} {n t u : ℕ}
+    → Doing rules rows codes index ways fired n t u
     → (s r h code : ℕ) (w : Rule) (g : Head) → s < n → nth rules (suc r) ≡ some w → nth (w .heads) (suc h) ≡ some g
     → Applies w (shapeNo codes s) → shapeAt code ≡ shapeFrom w (shapeNo codes s) g → n ≡ 512 → code < 17792 → getD index code 0 ≡ 0
     → MoreThan (Derived rules rows) 512
 doing-more {rules} {rows} {codes} d s r h code w g low named line applies is full small z =
     more-than (d .kept) code full small z
     (subst (Derived rules rows) (sym is)
-    (derived-made (shapeNo codes s) (suc r) (suc h) w g (d .kept .fits s low) (kept-derived (d .kept) s low) named line applies))
+    (derived-coded rules rows (shapeNo codes s) (suc r) (suc h) w g named line applies (d .kept .fits s low .own) (kept-derived (d .kept) s low)))
 
 -- The rules of a table.
-pub table-rule : (store : List ℕ) (n r : ℕ) → r < n → nth (tableRules store n) (suc r) ≡ some (ruleIn (rowBytes store r))
-table-rule store zero r l = absurd (omega arith)
-table-rule store (suc n) zero l = refl
-table-rule store (suc n) (suc r) l =
-    table-rule (drop 64 store) n r (omega arith)
-    ∙ ap (λ (bytes : List ℕ). some (ruleIn (take 64 bytes)))
-    (drop-drop (64 * r) 64 store ∙ ap (λ (m : ℕ). drop m store) (let e : 64 + 64 * r ≡ 64 * suc r = omega arith in e))
-
-pub table-length : (store : List ℕ) (n : ℕ) → length (tableRules store n) ≡ n
-table-length store zero = refl
-table-length store (suc n) = ap suc (table-length (drop 64 store) n)
-
-headsIn-length : (n : ℕ) (bytes : List ℕ) → length (headsIn n bytes) ≡ n
-headsIn-length zero bytes = refl
-headsIn-length (suc n) bytes = ap suc (headsIn-length n (drop 8 bytes))
-
-pub heads-length : (bytes : List ℕ) → length (ruleIn bytes .heads) ≡ getD bytes 28 0
-unfolding ruleIn
-heads-length bytes = headsIn-length (getD bytes 28 0) (drop 32 bytes)
-
 module _ (store : List ℕ) (n : ℕ) (rules : List Rule) (fits : TableFits store n) (are : tableRules store n ≡ rules) where
   pub rule-named : (r : ℕ) → r < n → nth rules (suc r) ≡ some (ruleIn (rowBytes store r))
   rule-named r l = subst (λ (rs : List Rule). nth rs (suc r) ≡ some (ruleIn (rowBytes store r))) are (table-rule store n r l)
 
   pub rules-length : length rules ≡ n
-  rules-length = ap length (sym are) ∙ table-length store n
+  rules-length = ap length (sym are) ∙ table-count store n
 
   pub rules-are-few : Few rules
   rules-are-few = record { rules-few = omega (arith, rules-length, fits .few); heads-few = heads }
@@ -338,7 +312,7 @@ module _ (store : List ℕ) (n : ℕ) (rules : List Rule) (fits : TableFits stor
       heads : (m : ℕ) (r : Rule) → nth rules m ≡ some r → length (r .heads) ≤ 4
       heads zero r e = absurd (Option·none-ne-some r e)
       heads (suc m) r e =
-          let b = nth-lt rules m r e in
+          let b = element-below rules m r e in
           let len = rules-length in
           let l : m < n = omega arith in
           let q : ruleIn (rowBytes store m) ≡ r = cc (rule-named m l) in
@@ -385,17 +359,17 @@ pub record Ruled (rules : List Rule) (store : List ℕ) (m : ℕ) : Type 0 where
   pub are : tableRules store m ≡ rules
 
 -- Where rules are tried on the shape at place s: rule r is next.
-pub record Ruling (rules : List Rule) (rows : List Record) (store digits : List ℕ) (m shape kind s r : ℕ) (codes index parents makers headers fired : List ℕ) (n : ℕ)
+pub record Ruling (rules : List Rule) (rows : List Record) (store digits : List ℕ) (m shape kind s r : ℕ) (codes index : List ℕ) (ways : List (List ℕ)) (fired : List ℕ) (n : ℕ)
     : Type 0 where
   pub r-low : r ≤ m
   pub s-low : s < n
   pub here : shape ≡ getD codes s 0
   pub ruled : Ruled rules store m
   pub on : Trying shape kind digits
-  pub doing : Doing rules rows codes index parents makers headers fired n (turn s r 0) (256 * s + r)
+  pub doing : Doing rules rows codes index ways fired n (turn s r 0) (256 * s + r)
 
 -- Where H lines of rule r are tried on it: H line h is next.
-pub record Heading (rules : List Rule) (rows : List Record) (store digits : List ℕ) (m shape kind s r heads h : ℕ) (codes index parents makers headers fired : List ℕ) (n : ℕ)
+pub record Heading (rules : List Rule) (rows : List Record) (store digits : List ℕ) (m shape kind s r heads h : ℕ) (codes index : List ℕ) (ways : List (List ℕ)) (fired : List ℕ) (n : ℕ)
     : Type 0 where
   pub h-low : h ≤ heads
   pub r-low : r < m
@@ -405,7 +379,7 @@ pub record Heading (rules : List Rule) (rows : List Record) (store digits : List
   pub on : Trying shape kind digits
   pub heads-are : heads ≡ getD (rowBytes store r) 28 0
   pub applies : Applies (ruleIn (rowBytes store r)) (shapeAt shape)
-  pub doing : Doing rules rows codes index parents makers headers fired n (turn s r h) (256 * s + r + 1)
+  pub doing : Doing rules rows codes index ways fired n (turn s r h) (256 * s + r + 1)
 
 few-ruled : {rules : List Rule} {store : List ℕ} {m : ℕ} → Ruled rules store m → Few rules
 few-ruled {rules} {store} {m} ruled = rules-are-few store m rules (ruled .fits) (ruled .are)
@@ -417,15 +391,15 @@ applies-here : (w : Rule) (codes : List ℕ) (s shape : ℕ) → shape ≡ getD 
 applies-here w codes s shape here a = subst (λ (v : ℕ). Applies w (shapeAt v)) here a
 
 -- The same numbers in other lists.
-along : (P : List ℕ → List ℕ → List ℕ → List ℕ → List ℕ → List ℕ → ℕ → Type 0) (a b c d e f a' b' c' d' e' f' : List ℕ) (n n' : ℕ)
-    → a' ≡ a → b' ≡ b → c' ≡ c → d' ≡ d → e' ≡ e → f' ≡ f → n' ≡ n → P a b c d e f n → P a' b' c' d' e' f' n'
-along P a b c d e f a' b' c' d' e' f' n n' ea eb ec ed ee ef en x = rw (ea, eb, ec, ed, ee, ef, en) x
+along : (P : List ℕ → List ℕ → List (List ℕ) → ℕ → Type 0) (a b a' b' : List ℕ) (c c' : List (List ℕ)) (n n' : ℕ) → a' ≡ a → b' ≡ b → c' ≡ c → n' ≡ n
+    → P a b c n → P a' b' c' n'
+along P a b a' b' c c' n n' ea eb ec en x = rw (ea, eb, ec, en) x
 
-module _ {rules : List Rule} {rows : List Record} {store digits : List ℕ} {m shape kind s r : ℕ} {codes index parents makers headers fired : List ℕ} {n : ℕ}
-    (x : Ruling rules rows store digits m shape kind s r codes index parents makers headers fired n) where
+module _ {rules : List Rule} {rows : List Record} {store digits : List ℕ} {m shape kind s r : ℕ} {codes index : List ℕ} {ways : List (List ℕ)} {fired : List ℕ} {n : ℕ}
+    (x : Ruling rules rows store digits m shape kind s r codes index ways fired n) where
   -- The rule fires.
   pub ruling-fires : (heads : ℕ) → FiresOn (ruleIn (rowBytes store r)) kind digits true → r < m → heads ≡ getD (rowBytes store r) 28 0
-      → Heading rules rows store digits m shape kind s r heads 0 codes index parents makers headers (set fired r 1) n
+      → Heading rules rows store digits m shape kind s r heads 0 codes index ways (set fired r 1) n
   ruling-fires heads f low are =
       let a = fires-yes (x .on) (ruleIn (rowBytes store r)) f in
       record {
@@ -444,7 +418,7 @@ module _ {rules : List Rule} {rows : List Record} {store digits : List ℕ} {m s
 
   -- It does not.
   pub ruling-still : FiresOn (ruleIn (rowBytes store r)) kind digits false → r < m
-      → Ruling rules rows store digits m shape kind s (r + 1) codes index parents makers headers fired n
+      → Ruling rules rows store digits m shape kind s (r + 1) codes index ways fired n
   ruling-still f low =
       record {
         r-low = omega arith;
@@ -459,7 +433,7 @@ module _ {rules : List Rule} {rows : List Record} {store digits : List ℕ} {m s
       }
 
   -- All rules were tried.
-  pub ruling-last : m ≤ r → Doing rules rows codes index parents makers headers fired n (turn (s + 1) 0 0) (256 * (s + 1))
+  pub ruling-last : m ≤ r → Doing rules rows codes index ways fired n (turn (s + 1) 0 0) (256 * (s + 1))
   ruling-last all =
       let len = rules-length store m rules (x .ruled .fits) (x .ruled .are) in
       let top = x .ruled .fits .few in
@@ -467,33 +441,33 @@ module _ {rules : List Rule} {rows : List Record} {store digits : List ℕ} {m s
       doing-shape (few-ruled (x .ruled)) (x .doing) s r refl refl (omega arith) (omega arith)
 
 -- The rules from rule r on, so many, do not fire.
-ruling-skip : {rules : List Rule} {rows : List Record} {store digits : List ℕ} {m shape kind s r : ℕ} {codes index parents makers headers fired : List ℕ} {n : ℕ} (k : ℕ)
-    → Ruling rules rows store digits m shape kind s r codes index parents makers headers fired n → r + k ≤ m
+ruling-skip : {rules : List Rule} {rows : List Record} {store digits : List ℕ} {m shape kind s r : ℕ} {codes index : List ℕ} {ways : List (List ℕ)} {fired : List ℕ} {n : ℕ} (k : ℕ)
+    → Ruling rules rows store digits m shape kind s r codes index ways fired n → r + k ≤ m
     → ((i : ℕ) → r ≤ i → i < r + k → FiresOn (ruleIn (rowBytes store i)) kind digits false)
-    → Ruling rules rows store digits m shape kind s (r + k) codes index parents makers headers fired n
-ruling-skip {rules} {rows} {store} {digits} {m} {shape} {kind} {s} {r} {codes} {index} {parents} {makers} {headers} {fired} {n} zero x low still =
+    → Ruling rules rows store digits m shape kind s (r + k) codes index ways fired n
+ruling-skip {rules} {rows} {store} {digits} {m} {shape} {kind} {s} {r} {codes} {index} {ways} {fired} {n} zero x low still =
     let e : r ≡ r + 0 = omega arith in
-    subst (λ (v : ℕ). Ruling rules rows store digits m shape kind s v codes index parents makers headers fired n) e x
-ruling-skip {rules} {rows} {store} {digits} {m} {shape} {kind} {s} {r} {codes} {index} {parents} {makers} {headers} {fired} {n} (suc k) x low still =
+    subst (λ (v : ℕ). Ruling rules rows store digits m shape kind s v codes index ways fired n) e x
+ruling-skip {rules} {rows} {store} {digits} {m} {shape} {kind} {s} {r} {codes} {index} {ways} {fired} {n} (suc k) x low still =
     let e : r + 1 + k ≡ r + suc k = omega arith in
-    subst (λ (v : ℕ). Ruling rules rows store digits m shape kind s v codes index parents makers headers fired n) e
+    subst (λ (v : ℕ). Ruling rules rows store digits m shape kind s v codes index ways fired n) e
     (ruling-skip k (ruling-still x (still r (omega arith) (omega arith)) (omega arith)) (omega arith) (λ i a b. still i (omega arith) (omega arith)))
 
 -- The next rule that fires is found.
-pub ruling-next : {rules : List Rule} {rows : List Record} {store digits : List ℕ} {m shape kind s r q : ℕ} {codes index parents makers headers fired : List ℕ} {n : ℕ}
-    → Ruling rules rows store digits m shape kind s r codes index parents makers headers fired n → NextFire store m r kind digits q
-    → Ruling rules rows store digits m shape kind s q codes index parents makers headers fired n
-ruling-next {rules} {rows} {store} {digits} {m} {shape} {kind} {s} {r} {q} {codes} {index} {parents} {makers} {headers} {fired} {n} x f =
+pub ruling-next : {rules : List Rule} {rows : List Record} {store digits : List ℕ} {m shape kind s r q : ℕ} {codes index : List ℕ} {ways : List (List ℕ)} {fired : List ℕ} {n : ℕ}
+    → Ruling rules rows store digits m shape kind s r codes index ways fired n → NextFire store m r kind digits q
+    → Ruling rules rows store digits m shape kind s q codes index ways fired n
+ruling-next {rules} {rows} {store} {digits} {m} {shape} {kind} {s} {r} {q} {codes} {index} {ways} {fired} {n} x f =
     let a = f .begun in
     let b = f .within in
     let e : r + (q - r) ≡ q = omega arith in
-    subst (λ (v : ℕ). Ruling rules rows store digits m shape kind s v codes index parents makers headers fired n) e
+    subst (λ (v : ℕ). Ruling rules rows store digits m shape kind s v codes index ways fired n) e
     (ruling-skip (q - r) x (omega arith) (λ i l h. f .still i l (omega arith)))
 
-module _ {rules : List Rule} {rows : List Record} {store digits : List ℕ} {m shape kind s r heads h : ℕ} {codes index parents makers headers fired : List ℕ} {n : ℕ}
-    (x : Heading rules rows store digits m shape kind s r heads h codes index parents makers headers fired n) where
+module _ {rules : List Rule} {rows : List Record} {store digits : List ℕ} {m shape kind s r heads h : ℕ} {codes index : List ℕ} {ways : List (List ℕ)} {fired : List ℕ} {n : ℕ}
+    (x : Heading rules rows store digits m shape kind s r heads h codes index ways fired n) where
   -- All H lines were tried.
-  pub heading-last : heads ≤ h → Ruling rules rows store digits m shape kind s (r + 1) codes index parents makers headers fired n
+  pub heading-last : heads ≤ h → Ruling rules rows store digits m shape kind s (r + 1) codes index ways fired n
   heading-last all =
       let low = x .r-low in
       let up = x .h-low in
@@ -510,11 +484,10 @@ module _ {rules : List Rule} {rows : List Record} {store digits : List ℕ} {m s
         doing = doing-rule (few-ruled (x .ruled)) (x .doing) s r h (ruleIn (rowBytes store r)) refl refl named (omega arith) (omega arith);
       }
 
-  pub heading-same : (codes' index' parents' makers' headers' : List ℕ) (n' : ℕ) → codes' ≡ codes → index' ≡ index → parents' ≡ parents
-      → makers' ≡ makers → headers' ≡ headers → n' ≡ n
-      → Heading rules rows store digits m shape kind s r heads h codes' index' parents' makers' headers' fired n'
-  heading-same codes' index' parents' makers' headers' n' a b c d e g =
-      along (Heading rules rows store digits m shape kind s r heads h) codes index parents makers headers fired codes' index' parents' makers' headers' fired n n' a b c d e refl g x
+  pub heading-same : (codes' index' : List ℕ) (ways' : List (List ℕ)) (n' : ℕ) → codes' ≡ codes → index' ≡ index → ways' ≡ ways → n' ≡ n
+      → Heading rules rows store digits m shape kind s r heads h codes' index' ways' fired n'
+  heading-same codes' index' ways' n' a b c d =
+      along (λ codes index ways n. Heading rules rows store digits m shape kind s r heads h codes index ways fired n) codes index codes' index' ways ways' n n' a b c d x
 
   -- An H line is tried.
   pub heading-below : h < heads → h < getD (rowBytes store r) 28 0
@@ -536,7 +509,7 @@ module _ {rules : List Rule} {rows : List Record} {store digits : List ℕ} {m s
         (made-is (x .on) (ruleIn (rowBytes store r)) h code (the-head .0) is (x .applies) (the-head .1))
 
     -- Its shape was there.
-    pub heading-seen : (getD index code 0 ≡ 0 → ⊥) → Heading rules rows store digits m shape kind s r heads (h + 1) codes index parents makers headers fired n
+    pub heading-seen : (getD index code 0 ≡ 0 → ⊥) → Heading rules rows store digits m shape kind s r heads (h + 1) codes index ways fired n
     heading-seen marked =
         record {
           h-low = omega arith;
@@ -553,7 +526,7 @@ module _ {rules : List Rule} {rows : List Record} {store digits : List ℕ} {m s
 
     -- It is put at the end.
     pub heading-push : (n ≡ 512 → ⊥) → getD index code 0 ≡ 0
-        → Heading rules rows store digits m shape kind s r heads (h + 1) (set codes n code) (set index code (n + 1)) (set parents n (s + 1)) (set makers n (r + 1)) (set headers n (h + 1)) fired (n + 1)
+        → Heading rules rows store digits m shape kind s r heads (h + 1) (set codes n code) (set index code (n + 1)) (set ways n ((s + 1) ∷ (r + 1) ∷ (h + 1) ∷ [])) fired (n + 1)
     heading-push ne z =
         let low = x .s-low in
         record {
@@ -578,17 +551,17 @@ module _ {rules : List Rule} {rows : List Record} {store digits : List ℕ} {m s
         (applies-here (ruleIn (rowBytes store r)) codes s shape (x .here) (x .applies)) the-made full (is .small) z
 
 -- Nothing is left to try.
-pub try-all : {rules : List Rule} {rows : List Record} {codes index parents makers headers fired store : List ℕ} {n m : ℕ} → Ruled rules store m → (s : ℕ) → n ≤ s
-    → Doing rules rows codes index parents makers headers fired n (turn s 0 0) (256 * s)
-    → Kept rules rows codes index parents makers headers n × Whole rules rows codes n × FiredMarks rules codes fired n
+pub try-all : {rules : List Rule} {rows : List Record} {codes index : List ℕ} {ways : List (List ℕ)} {fired store : List ℕ} {n m : ℕ} → Ruled rules store m → (s : ℕ) → n ≤ s
+    → Doing rules rows codes index ways fired n (turn s 0 0) (256 * s)
+    → Kept rules rows codes index ways n × Whole rules rows codes n × FiredRules rules codes fired n
 try-all ruled s all d = doing-all (few-ruled ruled) d s refl refl all
 
 -- The first rule is next.
-pub ruling-first : {rules : List Rule} {rows : List Record} {store codes index parents makers headers fired : List ℕ} {m n t : ℕ} (s shape : ℕ) (digits : List ℕ)
-    → Ruled rules store m → Doing rules rows codes index parents makers headers fired n t (256 * s) → t ≡ turn s 0 0 → s < n → shape ≡ getD codes s 0
+pub ruling-first : {rules : List Rule} {rows : List Record} {store codes index : List ℕ} {ways : List (List ℕ)} {fired : List ℕ} {m n t : ℕ} (s shape : ℕ) (digits : List ℕ)
+    → Ruled rules store m → Doing rules rows codes index ways fired n t (256 * s) → t ≡ turn s 0 0 → s < n → shape ≡ getD codes s 0
     → digits ≡ digitsOf (shape % 278 + 1)
-    → Ruling rules rows store digits m shape (shape / 278 + 1) s 0 codes index parents makers headers fired n
-ruling-first {rules} {rows} {store} {codes} {index} {parents} {makers} {headers} {fired} {m} {n} {t} s shape digits ruled d at-t low here are =
+    → Ruling rules rows store digits m shape (shape / 278 + 1) s 0 codes index ways fired n
+ruling-first {rules} {rows} {store} {codes} {index} {ways} {fired} {m} {n} {t} s shape digits ruled d at-t low here are =
     record {
       r-low = omega arith;
       s-low = low;
@@ -596,5 +569,5 @@ ruling-first {rules} {rows} {store} {codes} {index} {parents} {makers} {headers}
       ruled = ruled;
       on = trying shape digits (subst (λ (v : ℕ). ShapeFits (shapeAt v)) (sym here) (d .kept .fits s low)) are;
       doing =
-          subst₂ (Doing rules rows codes index parents makers headers fired n) at-t (let e : 256 * s ≡ 256 * s + 0 = omega arith in e) d;
+          subst₂ (Doing rules rows codes index ways fired n) at-t (let e : 256 * s ≡ 256 * s + 0 = omega arith in e) d;
     }

@@ -1,24 +1,36 @@
--- The first place of a mark holds its value, and the places that fresh numbers come from are those of the carried marks. Assumes nothing.
-use mathlib.Core.Path.{_≡_, refl, sym}
+-- The first places of marks in a rule's body: each has its mark's code, a rule applies and makes as these places say, and fresh numbers come from those of the carried marks. Assumes nothing.
+use mathlib.Core.Path.{_≡_, refl, sym, _∙_, ap}
 use mathlib.Core.Bool.{Bool, true, false, cond, _&&_, false≢true, and-eq-true-iff}
 use mathlib.Core.Logic.{_⊎_, inl, inr}
-use mathlib.Core.List.{List, [], _∷_}
-use mathlib.Core.Option.{some, Option·none-ne-some}
-use Prim.Native.Nat.{ℕ, zero, suc, _≤_, _<_}
+use mathlib.Core.List.{List, [], _∷_, map}
+use mathlib.Core.Option.{Option, none, some, Option·none-ne-some}
+use Prim.Native.Nat.{ℕ, zero, suc, _-_, _≤_, _<_}
 use native.Mathlib.Decide.{ℕ-discrete}
 use native.Mathlib.Omega.{arith}
 use lib.Dec.{eqb}
-use lib.ListN.{length, getD}
+use lib.ListN.{length, getD, length-map}
+use lib.Seq.{ext-getD}
 use borrow.Author.Tests.{eqb-true, eq-eqb, ne-eqb}
 use Rattle.patterns.specs.Pattern.{pick}
+use Rattle.patterns.proofs.ListLaws.{in-getD}
 use Rattle.chase.specs.Lists.{In}
-use Rattle.chase.specs.Rules.{Rule, marksOf, nth}
-use Rattle.chase.specs.Making.{valueOf, has, carriedMarks}
-use Rattle.chase.proofs.MakingLaws.{has-in, in-has, carried-in, in-carried}
+use Rattle.chase.specs.Rules.{Head, Rule, marksOf, nth}
+use Rattle.chase.specs.Making.{valueOf, Agree, orElse, has, carriedMarks, carriedValues}
+use Rattle.chase.specs.Shape.{Shape}
+use Rattle.chase.specs.Simplification.{Applies}
+use Rattle.chase.proofs.ListLaws.{map-same}
+use Rattle.chase.proofs.MakingLaws.{has-in, in-has}
+use Rattle.chase.proofs.CodedLaws.{carried-in, in-carried, InBody, bodyWidth, codeAt, codesMade, OneToOne, applies-coded}
 use Rattle.judging.specs.inner.Table.{later, firstPlace, isNone, flag, sourceAt}
 
--- The first place of a mark is at most the number of marks, and 0 only where the mark is not there.
-pub first-within : (m : ℕ) (bs : List ℕ) → firstPlace m bs ≤ length bs
+-- LISTS. What stands at a place of a mapped list.
+pub map-at : {A B : Type 0} (f : A → B) (l : List A) (i : ℕ) (a : A) (b : B) → i < length l → getD (map f l) i b ≡ f (getD l i a)
+map-at f [] i a b h = absurd (omega arith)
+map-at f (x ∷ l) zero a b h = refl
+map-at f (x ∷ l) (suc i) a b h = map-at f l i a b (omega arith)
+
+-- FIRST PLACES in a list of marks. The first place of a mark is at most the number of marks, and 0 only where the mark is not there.
+first-within : (m : ℕ) (bs : List ℕ) → firstPlace m bs ≤ length bs
 first-within m [] = omega arith
 first-within m (b ∷ bs) = go (eqb m b) (firstPlace m bs) (first-within m bs)
   where
@@ -27,7 +39,7 @@ first-within m (b ∷ bs) = go (eqb m b) (firstPlace m bs) (first-within m bs)
     go false zero l = omega arith
     go false (suc p) l = omega arith
 
-pub first-in : (m : ℕ) (bs : List ℕ) → 0 < firstPlace m bs → In m bs
+first-in : (m : ℕ) (bs : List ℕ) → 0 < firstPlace m bs → In m bs
 first-in m [] l = absurd (omega arith)
 first-in m (b ∷ bs) l = go (eqb m b) refl (firstPlace m bs) (λ h. first-in m bs h) l
   where
@@ -37,7 +49,7 @@ first-in m (b ∷ bs) l = go (eqb m b) refl (firstPlace m bs) (λ h. first-in m 
     go false q (suc p) ih l = inr (ih (omega arith))
 
 -- That place has the mark.
-pub first-at : (m : ℕ) (bs : List ℕ) → In m bs → (i : ℕ) × (firstPlace m bs ≡ suc i) × (getD bs i 0 ≡ m)
+first-at : (m : ℕ) (bs : List ℕ) → In m bs → (i : ℕ) × (firstPlace m bs ≡ suc i) × (getD bs i 0 ≡ m)
 first-at m [] i = absurd i
 first-at m (b ∷ bs) i = go (ℕ-discrete m b) i (λ j. first-at m bs j)
   where
@@ -49,8 +61,21 @@ first-at m (b ∷ bs) i = go (ℕ-discrete m b) i (λ j. first-at m bs j)
         let s = ih j in
         (suc (s .0), rw (ne-eqb m b h, s .1), s .2)
 
+first-there : (m : ℕ) (bs : List ℕ) → In m bs → 0 < firstPlace m bs
+first-there m bs i = omega (arith, first-at m bs i .1)
+
+pub first-some : (bs : List ℕ) (i : ℕ) → i < length bs → 0 < firstPlace (getD bs i 0) bs
+first-some bs i h = first-there (getD bs i 0) bs (in-getD bs i 0 h)
+
+first-none : (m : ℕ) (bs : List ℕ) → (In m bs → ⊥) → firstPlace m bs ≡ 0
+first-none m bs d = go (firstPlace m bs) refl
+  where
+    go : (k : ℕ) → firstPlace m bs ≡ k → k ≡ 0
+    go zero e = refl
+    go (suc k) e = absurd (d (first-in m bs (omega arith)))
+
 -- The field there is the mark's value.
-pub first-value : {A : Type 0} (m : ℕ) (bs : List ℕ) (xs : List A) (x : A) → valueOf bs xs m ≡ some x → nth xs (firstPlace m bs) ≡ some x
+first-value : {A : Type 0} (m : ℕ) (bs : List ℕ) (xs : List A) (x : A) → valueOf bs xs m ≡ some x → nth xs (firstPlace m bs) ≡ some x
 first-value m [] xs x e = absurd (Option·none-ne-some x e)
 first-value m (b ∷ bs) [] x e = absurd (Option·none-ne-some x e)
 first-value {A = A} m (b ∷ bs) (y ∷ xs) x e = go (ℕ-discrete m b) e (λ q. first-value m bs xs x q)
@@ -64,10 +89,98 @@ first-value {A = A} m (b ∷ bs) (y ∷ xs) x e = go (ℕ-discrete m b) e (λ q.
     go (yes p) e ih = rw (eq-eqb m b p) e
     go (no h) e ih = rw (ne-eqb m b h) (after (firstPlace m bs) (ih e))
 
+-- The value at a place, from 1.
+abbrev pub atPlace : {A : Type 0} → List A → A → ℕ → Option A
+atPlace fields d zero = none
+atPlace fields d (suc k) = some (getD fields k d)
+
+at-later : {A : Type 0} (x : A) (fields : List A) (d : A) (n : ℕ) → atPlace fields d n ≡ atPlace (x ∷ fields) d (later n)
+at-later x fields d zero = refl
+at-later x fields d (suc k) = refl
+
+at-some : {A : Type 0} (fields : List A) (d : A) (n : ℕ) → 1 ≤ n → atPlace fields d n ≡ some (getD fields (n - 1) d)
+at-some fields d zero h = absurd (omega arith)
+at-some fields d (suc k) h = ap (λ (n : ℕ). some (getD fields n d)) (omega arith)
+
+value-first : {A : Type 0} (marks : List ℕ) (fields : List A) (d : A) (m : ℕ) → length marks ≡ length fields
+    → valueOf marks fields m ≡ atPlace fields d (firstPlace m marks)
+value-first [] fields d m e = refl
+value-first (b ∷ bs) [] d m e = absurd (omega arith)
+value-first (b ∷ bs) (x ∷ xs) d m e = go (ℕ-discrete m b) (value-first bs xs d m (omega arith))
+  where
+    go : (p : Dec (m ≡ b)) → valueOf bs xs m ≡ atPlace xs d (firstPlace m bs)
+        → pick p (some x) (valueOf bs xs m) ≡ atPlace (x ∷ xs) d (cond (eqb m b) 1 (later (firstPlace m bs)))
+    go (yes p) ih = rw (eq-eqb m b p)
+    go (no h) ih = rw (ne-eqb m b h) (ih ∙ at-later x xs d (firstPlace m bs))
+
+-- The field of a mark's first place.
+abbrev pub firstField : List ℕ → ℕ → ℕ
+firstField marks i = firstPlace (getD marks i 0) marks - 1
+
+-- OF A RULE. The place of a mark in its body, from 1; 0 where the mark does not stand there.
+abbrev pub bodyPlace : Rule → ℕ → ℕ
+bodyPlace r m = firstPlace m (r .marks)
+
+module _ (r : Rule) (m : ℕ) where
+  pub place-within : bodyPlace r m ≤ bodyWidth r
+  place-within = first-within m (r .marks)
+
+  pub placed-stands : 0 < bodyPlace r m → InBody r m
+  placed-stands h = first-in m (r .marks) h
+
+  pub stands-placed : InBody r m → 0 < bodyPlace r m
+  stands-placed i = first-there m (r .marks) i
+
+  pub not-placed : (InBody r m → ⊥) → bodyPlace r m ≡ 0
+  not-placed d = first-none m (r .marks) d
+
+  -- That place has the mark's code.
+  pub code-there : {A : Type 0} (xs : List A) (x : A) → codeAt r xs m ≡ some x → nth xs (bodyPlace r m) ≡ some x
+  code-there xs x e = first-value m (r .marks) xs x e
+
+  pub code-place : {A : Type 0} (xs : List A) (d : A) → bodyWidth r ≡ length xs → codeAt r xs m ≡ atPlace xs d (bodyPlace r m)
+  code-place xs d wide = value-first (r .marks) xs d m wide
+
+-- A rule applies where each code is equal to that of its mark's first place.
+module _ {A : Type 0} (marks : List ℕ) (xs : List A) (d : A) (same : length marks ≡ length xs) where
+  value-at : (i : ℕ) → i < length marks → valueOf marks xs (getD marks i 0) ≡ some (getD xs (firstField marks i) d)
+  value-at i h = value-first marks xs d (getD marks i 0) same ∙ at-some xs d (firstPlace (getD marks i 0) marks) (first-some marks i h)
+
+  agree-at : Agree marks xs → (i : ℕ) → i < length marks → getD xs i d ≡ getD xs (firstField marks i) d
+  agree-at a i h =
+      let u = map-at (valueOf marks xs) marks i 0 none h in
+      let v = map-at (λ (x : A). some x) xs i d none (omega arith) in
+      let w = value-at i h in
+      let z = ap (λ (l : List (Option A)). getD l i none) a in
+      cc
+
+  at-agree : ((i : ℕ) → i < length marks → getD xs i d ≡ getD xs (firstField marks i) d) → Agree marks xs
+  at-agree f =
+      let l = length-map marks (valueOf marks xs) in
+      ext-getD none (map (valueOf marks xs) marks) (map some xs) (l ∙ same ∙ sym (length-map xs (λ (x : A). some x)))
+      (λ i h.
+      let k : i < length marks = omega arith in
+      map-at (valueOf marks xs) marks i 0 none k ∙ value-at i k ∙ ap some (sym (f i k)) ∙ sym (map-at (λ (x : A). some x) xs i d none (omega arith)))
+
+module _ {A : Type 0} (f : A → ℕ) (r : Rule) (s : Shape) (xs : List A) (d : A) (is : map f xs ≡ s .pattern) (one : OneToOne f xs)
+    (wide : bodyWidth r ≡ length xs) where
+  pub applies-places : Applies r s → (i : ℕ) → i < bodyWidth r → getD xs i d ≡ getD xs (firstField (r .marks) i) d
+  applies-places a i h = agree-at (r .marks) xs d wide (applies-coded f r s xs is one .0 a .1) i h
+
+  pub places-apply : s .kind ≡ r .kind → ((i : ℕ) → i < bodyWidth r → getD xs i d ≡ getD xs (firstField (r .marks) i) d) → Applies r s
+  places-apply k e = applies-coded f r s xs is one .1 (k, at-agree (r .marks) xs d wide e)
+
+-- What an H line makes of codes, by the first places of its marks.
+pub made-places : {A : Type 0} (new : ℕ → List A → A) (r : Rule) (xs : List A) (d : A) (h : Head) → bodyWidth r ≡ length xs
+    → codesMade new r xs h ≡ map (λ m. orElse (new m (carriedValues r xs)) (atPlace xs d (bodyPlace r m))) (h .marks)
+made-places new r xs d h wide =
+    map-same (λ m. orElse (new m (carriedValues r xs)) (codeAt r xs m)) (λ m. orElse (new m (carriedValues r xs)) (atPlace xs d (bodyPlace r m))) (h .marks)
+    (λ m i. ap (orElse (new m (carriedValues r xs))) (code-place r m xs d wide))
+
 -- A place that fresh numbers come from is 0, where nothing is carried, or the first one of a carried mark.
 pub data Source (r : Rule) (place : ℕ) : Type 0 where
   nothing : place ≡ 0 → carriedMarks r ≡ [] → Source r place
-  first : (m : ℕ) → In m (carriedMarks r) → place ≡ firstPlace m (r .marks) → Source r place
+  first : (m : ℕ) → In m (carriedMarks r) → place ≡ bodyPlace r m → Source r place
 
 flag-one : (b : Bool) → flag b ≡ 1 → b ≡ true
 flag-one true e = refl
@@ -81,16 +194,16 @@ pub source-is : (r : Rule) (place : ℕ) → sourceAt r place ≡ 1 → Source r
 source-is r zero e = nothing refl (none-empty (carriedMarks r) (flag-one (isNone (carriedMarks r)) e))
 source-is r (suc i) e =
     let m : ℕ = getD (r .marks) i 0 in
-    let s = and-eq-true-iff (eqb (firstPlace m (r .marks)) (suc i)) (has m (marksOf (r .heads))) .0
-    (flag-one (eqb (firstPlace m (r .marks)) (suc i) && has m (marksOf (r .heads))) e) in
-    let q : firstPlace m (r .marks) ≡ suc i = eqb-true (firstPlace m (r .marks)) (suc i) (s .0) in
-    first m (in-carried r m (first-in m (r .marks) (omega arith)) (has-in m (marksOf (r .heads)) (s .1))) (sym q)
+    let s = and-eq-true-iff (eqb (bodyPlace r m) (suc i)) (has m (marksOf (r .heads))) .0
+    (flag-one (eqb (bodyPlace r m) (suc i) && has m (marksOf (r .heads))) e) in
+    let q : bodyPlace r m ≡ suc i = eqb-true (bodyPlace r m) (suc i) (s .0) in
+    first m (in-carried r m (placed-stands r m (omega arith)) (has-in m (marksOf (r .heads)) (s .1))) (sym q)
 
 pub no-source : (r : Rule) → carriedMarks r ≡ [] → sourceAt r 0 ≡ 1
 no-source r e = rw e
 
-pub carried-source : (r : Rule) (m : ℕ) → In m (carriedMarks r) → sourceAt r (firstPlace m (r .marks)) ≡ 1
+pub carried-source : (r : Rule) (m : ℕ) → In m (carriedMarks r) → sourceAt r (bodyPlace r m) ≡ 1
 carried-source r m i =
     let s = carried-in r m i in
     let f = first-at m (r .marks) (s .0) in
-    rw (f .1, f .2, eq-eqb (firstPlace m (r .marks)) (suc (f .0)) (f .1), in-has m (marksOf (r .heads)) (s .1))
+    rw (f .1, f .2, eq-eqb (bodyPlace r m) (suc (f .0)) (f .1), in-has m (marksOf (r .heads)) (s .1))

@@ -7,18 +7,20 @@ use native.Mathlib.Omega.{arith}
 use native.Mathlib.Decide.{ℕ-discrete}
 use lib.ListN.{getD, set, length-set}
 use lib.Seq.{getD-set-same, getD-set-other}
-use Rattle.judging.specs.inner.Nodes.{at}
+use Rattle.judging.specs.inner.Nodes.{at, fromOf, linkOf}
 use Rattle.judging.specs.inner.Order.{Ordered}
-use Rattle.judging.specs.inner.Passes.{Live, Done, Swept, Same, Rests}
+use Rattle.judging.specs.inner.Passes.{changes, overs, Live, Done, Swept, Same, Rests}
+use Rattle.judging.specs.declared.spread.Raised.{Raised}
+use Rattle.judging.specs.declared.spread.Raised.the-variants.{Nothing}
 
 -- The shapes at the first i places of the order have had their turn.
-pub record Passed (n : ℕ) (E : ℕ → ℕ → ℕ → Type 0) (order : List ℕ) (i : ℕ) (g₀ f₀ k₀ g f k : List (List ℕ)) (w : List ℕ) (r : ℕ) : Type 0 where
-  pub swept : Swept n E 0 g₀ f₀ k₀ g f k w r
-  pub idle-at : r ≡ 0 → (j : ℕ) → j < i → getD w (getD order j 0) 0 ≡ 1 → ⊥
+pub record Passed (n : ℕ) (E : ℕ → ℕ → ℕ → Type 0) (order : List ℕ) (i : ℕ) (g₀ : List (List ℕ)) (f₀ : List (List (List ℕ))) (g : List (List ℕ)) (f : List (List (List ℕ))) (w : List ℕ) (r : Raised) : Type 0 where
+  pub swept : Swept n E 0 g₀ f₀ g f w r
+  pub idle-at : changes r ≡ 0 → (j : ℕ) → j < i → getD w (getD order j 0) 0 ≡ 1 → ⊥
 
 pub begin :
-    {n : ℕ} {E : ℕ → ℕ → ℕ → Type 0} {order : List ℕ} {g from link : List (List ℕ)} {waiting : List ℕ} → Live n g from link waiting 0
-    → ((u v code : ℕ) → E u v code → Rests g waiting u v code) → Passed n E order 0 g from link g from link waiting 0
+    {n : ℕ} {E : ℕ → ℕ → ℕ → Type 0} {order : List ℕ} {g : List (List ℕ)} {raises : List (List (List ℕ))} {waiting : List ℕ} → Live n g raises waiting Nothing
+    → ((u v code : ℕ) → E u v code → Rests g waiting u v code) → Passed n E order 0 g raises g raises waiting Nothing
 begin l rests =
     record {
       swept =
@@ -35,26 +37,24 @@ begin l rests =
 
 -- A shape's mark is taken away.
 pub unmarked :
-    {n : ℕ} {g from link : List (List ℕ)} {waiting : List ℕ} {last : ℕ} (s : ℕ) → Live n g from link waiting last
-    → Live n g from link (set waiting s 0) last
+    {n : ℕ} {g : List (List ℕ)} {raises : List (List (List ℕ))} {waiting : List ℕ} {last : Raised} (s : ℕ) → Live n g raises waiting last
+    → Live n g raises (set waiting s 0) last
 unmarked {waiting = waiting} s l =
     record {
       grid = l .grid;
-      grid-from = l .grid-from;
-      grid-link = l .grid-link;
+      raise-grid = l .raise-grid;
       size = length-set waiting s 0 ∙ l .size;
       small = l .small;
       timed = l .timed;
       node = l .node;
-      over = l .over;
       low = l .low;
       high = l .high;
     }
 
-module _ {n : ℕ} {E : ℕ → ℕ → ℕ → Type 0} {order : List ℕ} {i : ℕ} {g₀ f₀ k₀ g f k : List (List ℕ)} {w : List ℕ} {r : ℕ}
-    (q : Passed n E order i g₀ f₀ k₀ g f k w r) where
+module _ {n : ℕ} {E : ℕ → ℕ → ℕ → Type 0} {order : List ℕ} {i : ℕ} {g₀ g : List (List ℕ)} {f₀ f : List (List (List ℕ))} {w : List ℕ} {r : Raised}
+    (q : Passed n E order i g₀ f₀ g f w r) where
   -- The shape is not waiting.
-  pub idle : (getD w (getD order i 0) 0 ≡ 1 → ⊥) → Passed n E order (i + 1) g₀ f₀ k₀ g f k w r
+  pub idle : (getD w (getD order i 0) 0 ≡ 1 → ⊥) → Passed n E order (i + 1) g₀ f₀ g f w r
   idle d =
       record {
         swept = q .swept;
@@ -66,24 +66,24 @@ module _ {n : ℕ} {E : ℕ → ℕ → ℕ → Type 0} {order : List ℕ} {i : 
 
   module _ {P : ℕ → ℕ → ℕ → Type 0} (own : (u v code : ℕ) → P u v code → E u v code)
       (split : (u v code : ℕ) → E u v code → P u v code ⊎ (u / 7 ≡ getD order i 0 → ⊥)) (below : getD order i 0 < 512)
-      {g₁ f₁ k₁ : List (List ℕ)} {w₁ : List ℕ} {r₁ : ℕ} (d : Done n P g f k (set w (getD order i 0) 0) r g₁ f₁ k₁ w₁ r₁) where
+      {g₁ : List (List ℕ)} {f₁ : List (List (List ℕ))} {w₁ : List ℕ} {r₁ : Raised} (d : Done n P g f (set w (getD order i 0) 0) r g₁ f₁ w₁ r₁) where
     -- The links of other shapes rest as they did.
     others : (u v code : ℕ) → (u / 7 ≡ getD order i 0 → ⊥) → Rests g w u v code → Rests g (set w (getD order i 0) 0) u v code
     others u v code q (inl e) = inl (getD-set-other w (getD order i 0) (u / 7) 0 0 q ∙ e)
     others u v code q (inr h) = inr h
 
-    first : (v : ℕ) → Same g f k g₁ f₁ k₁ v → Same g₀ f₀ k₀ g f k v ⊎ E (at f v) v (at k v)
-        → Same g₀ f₀ k₀ g₁ f₁ k₁ v ⊎ E (at f₁ v) v (at k₁ v)
+    first : (v : ℕ) → Same g f g₁ f₁ v → Same g₀ f₀ g f v ⊎ E (at (fromOf f) v) v (at (linkOf f) v)
+        → Same g₀ f₀ g₁ f₁ v ⊎ E (at (fromOf f₁) v) v (at (linkOf f₁) v)
     first v y (inl x) =
         inl (record { high = y .high ∙ x .high; from-is = y .from-is ∙ x .from-is; link-is = y .link-is ∙ x .link-is })
     first v y (inr x) = inr (rw (y .from-is, y .link-is) x)
 
-    second : (v : ℕ) → Same g f k g₁ f₁ k₁ v ⊎ P (at f₁ v) v (at k₁ v) → Same g₀ f₀ k₀ g₁ f₁ k₁ v ⊎ E (at f₁ v) v (at k₁ v)
+    second : (v : ℕ) → Same g f g₁ f₁ v ⊎ P (at (fromOf f₁) v) v (at (linkOf f₁) v) → Same g₀ f₀ g₁ f₁ v ⊎ E (at (fromOf f₁) v) v (at (linkOf f₁) v)
     second v (inl y) = first v y (q .swept .edges v)
-    second v (inr y) = inr (own (at f₁ v) v (at k₁ v) y)
+    second v (inr y) = inr (own (at (fromOf f₁) v) v (at (linkOf f₁) v) y)
 
     -- The shape's links were followed.
-    pub worked : Passed n E order (i + 1) g₀ f₀ k₀ g₁ f₁ k₁ w₁ r₁
+    pub worked : Passed n E order (i + 1) g₀ f₀ g₁ f₁ w₁ r₁
     worked =
         let a = q .swept in
         let ga = a .grown in
@@ -100,13 +100,13 @@ module _ {n : ℕ} {E : ℕ → ℕ → ℕ → Type 0} {order : List ℕ} {i : 
                 clear = λ z x b. let y : ⊥ = omega arith in absurd y;
                 grown = omega arith;
                 more = λ p.
-                    by-cases (ℕ-discrete r 0)
-                    (λ (e : r ≡ 0). omega (arith, d .more e p))
-                    (λ (e : r ≡ 0 → ⊥). omega (arith, a .more (omega arith)));
+                    by-cases (ℕ-discrete (changes r) 0)
+                    (λ (e : changes r ≡ 0). omega (arith, d .more e p))
+                    (λ (e : changes r ≡ 0 → ⊥). omega (arith, a .more (omega arith)));
                 edges = λ v. second v (d .edges v);
               };
           idle-at = λ z j b e.
-              let c : getD (set w (getD order i 0) 0) (getD order j 0) 0 ≡ 1 = subst (λ (l : List ℕ). getD l (getD order j 0) 0 ≡ 1) (d .marks z) e in
+              let c : getD (set w (getD order i 0) 0) (getD order j 0) 0 ≡ 1 = subst (λ (l : List ℕ). getD l (getD order j 0) 0 ≡ 1) (d .still z) e in
               by-cases (ℕ-discrete (getD order j 0) (getD order i 0))
               (λ (o : getD order j 0 ≡ getD order i 0).
               let y = getD-set-same w (getD order i 0) 0 0 (let t = a .live .size in omega arith) in
@@ -121,14 +121,14 @@ module _ {n : ℕ} {E : ℕ → ℕ → ℕ → Type 0} {order : List ℕ} {i : 
 
 -- What was left is known by equations.
 pub passed-is :
-    {n : ℕ} {E : ℕ → ℕ → ℕ → Type 0} {order : List ℕ} {i : ℕ} {g₀ f₀ k₀ g f k g₁ f₁ k₁ : List (List ℕ)} {w w₁ : List ℕ} {r r₁ : ℕ}
-    → g ≡ g₁ → f ≡ f₁ → k ≡ k₁ → w ≡ w₁ → r ≡ r₁ → Passed n E order i g₀ f₀ k₀ g₁ f₁ k₁ w₁ r₁ → Passed n E order i g₀ f₀ k₀ g f k w r
-passed-is eg ef ek ew er d = rw (eg, ef, ek, ew, er) d
+    {n : ℕ} {E : ℕ → ℕ → ℕ → Type 0} {order : List ℕ} {i : ℕ} {g₀ g g₁ : List (List ℕ)} {f₀ f f₁ : List (List (List ℕ))} {w w₁ : List ℕ} {r r₁ : Raised}
+    → g ≡ g₁ → f ≡ f₁ → w ≡ w₁ → r ≡ r₁ → Passed n E order i g₀ f₀ g₁ f₁ w₁ r₁ → Passed n E order i g₀ f₀ g f w r
+passed-is eg ef ew er d = rw (eg, ef, ew, er) d
 
 -- All shapes.
 pub swept-all :
-    {n : ℕ} {E : ℕ → ℕ → ℕ → Type 0} {order : List ℕ} {i m : ℕ} {g₀ f₀ k₀ g f k : List (List ℕ)} {w : List ℕ} {r : ℕ}
-    → Passed n E order i g₀ f₀ k₀ g f k w r → Ordered order m → m ≤ i → Swept n E m g₀ f₀ k₀ g f k w r
+    {n : ℕ} {E : ℕ → ℕ → ℕ → Type 0} {order : List ℕ} {i m : ℕ} {g₀ g : List (List ℕ)} {f₀ f : List (List (List ℕ))} {w : List ℕ} {r : Raised}
+    → Passed n E order i g₀ f₀ g f w r → Ordered order m → m ≤ i → Swept n E m g₀ f₀ g f w r
 swept-all {w = w} q o b =
     let a = q .swept in
     record {

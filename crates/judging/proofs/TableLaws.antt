@@ -9,8 +9,8 @@ use native.Mathlib.Omega.{arith}
 use borrow.Author.Count.{below-more}
 use borrow.Author.Tests.{eqb-true, eq-eqb, ne-eqb, ltb-true, ltb-false}
 use lib.Dec.{eqb, ltb}
-use lib.ListN.{length, getD, take, drop, length-append, length-drop, drop-of-length-le}
-use lib.Seq.{drop-cons, drop-drop, getD-drop, getD-take, length-take-le, ext-getD}
+use lib.ListN.{length, getD, take, drop, length-append, drop-of-length-le}
+use lib.Seq.{drop-cons, drop-drop, ext-getD}
 use Rattle.sheet.specs.Line.{B, H, Line}
 use Rattle.patterns.specs.Outcome.{padded}
 use Rattle.chase.specs.Lists.{All}
@@ -19,6 +19,7 @@ use Rattle.judging.specs.inner.Table.{SheetHeld, linesIn, rulesIn, ruleI
 use Rattle.judging.specs.inner.Bytes.{front, marksAt, headsAt, ruleAt, LinesIn, headCount, byteOf, Blank, RowPut}
 use Rattle.judging.proofs.SheetLaws.{noLine, lineNo, held-lines, size-held, LentLine, lent-line, rules-fit-from, rules-few}
 use Rattle.judging.proofs.ByteLaws.{bytes-fit, rule-read}
+use Rattle.judging.proofs.RuleLaws.{row-long, row-at, table-count}
 
 -- ---- the H lines of a rule
 
@@ -85,12 +86,6 @@ module _ {numbers : List ℕ} {n i : ℕ} (held : SheetHeld numbers) (s : HeadsS
 
 -- ---- the rows of a table
 
-row-at : (table : List ℕ) (k i : ℕ) → i < 64 → getD (rowBytes table k) i 0 ≡ getD table (64 * k + i) 0
-row-at table k i h = getD-take 64 (drop (64 * k) table) i 0 h ∙ getD-drop (64 * k) table i 0
-
-row-long : (table : List ℕ) (k : ℕ) → 64 * k + 64 ≤ length table → length (rowBytes table k) ≡ 64
-row-long table k h = length-take-le 64 (drop (64 * k) table) (omega (arith, length-drop (64 * k) table))
-
 row-same : (a b : List ℕ) (k : ℕ) → 64 * k + 64 ≤ length a → 64 * k + 64 ≤ length b
     → ((i : ℕ) → i < 64 → getD a (64 * k + i) 0 ≡ getD b (64 * k + i) 0) → rowBytes a k ≡ rowBytes b k
 row-same a b k p q e =
@@ -112,10 +107,6 @@ table-same a b (suc n) e =
     table-more a n
     ∙ ap₂ (λ (rs : List Rule) (bytes : List ℕ). rs ++ (ruleIn bytes ∷ [])) (table-same a b n (λ k h. e k (omega arith))) (e n (omega arith))
     ∙ sym (table-more b n)
-
-length-table : (table : List ℕ) (n : ℕ) → length (tableRules table n) ≡ n
-length-table table zero = refl
-length-table table (suc n) = ap suc (length-table (drop 64 table) n)
 
 -- ---- the rule at a B line
 
@@ -234,7 +225,7 @@ module _ {numbers table : List ℕ} {count n : ℕ} (held : SheetHeld numbers) (
         rules-few (linesIn numbers) (held-lines held .1),
         ap length (f .rules),
         length-append (tableRules table count) (rulesOf (drop n (linesIn numbers))),
-        length-table table count,
+        table-count table count,
       )
 
   pub filled-end : length numbers ≤ 8 * n → TableFits table count × (tableRules table count ≡ rulesIn numbers)

@@ -8,6 +8,7 @@ use native.Mathlib.Omega.{arith}
 use native.Mathlib.Numerals.{add-one}
 use native.Mathlib.Nat.{eq-or-lt-of-le}
 use native.Mathlib.Decide.{ℕ-discrete}
+use borrow.Author.Count.{below-more}
 use borrow.Author.Tests.{eq-eqb, ne-eqb}
 use lib.Dec.{eqb, ltb}
 use lib.ListN.{length, getD, set, take, drop, length-append}
@@ -26,10 +27,12 @@ use Rattle.sheet.proofs.Refused.{sheetHeld-refused, sheetHeld-number}
 use Rattle.chase.specs.Steps.{Step, stepNumbers}
 use Rattle.chase.proofs.StepLaws.{length-numbers, numbers-append}
 use Rattle.judging.specs.inner.Table.{FirstWrong}
-use Rattle.judging.specs.inner.Found.{onesIn}
-use Rattle.judging.specs.inner.Nodes.{at, back, weight}
-use Rattle.judging.specs.inner.Written.{linkStep, lineTo, reachStep, madeOf, wayBack, wayTo, Falls, WayLength, putSteps, oneStep, StaysBelow, Deepest, InTurn, TurnLength, InLine, LineLength}
+use Rattle.judging.specs.inner.Found.{onesIn, parentAt, makerAt, hLineAt}
+use Rattle.judging.specs.inner.Nodes.{at, back, fromOf, linkOf, weight}
+use Rattle.judging.specs.inner.Written.{linkStep, lineTo, madeOf, wayBack, wayTo, Falls, WayLength, putSteps, oneStep, StaysBelow, Deepest, InTurn, TurnLength, InLine, LineLength}
 use Rattle.judging.specs.inner.Trails.{WroteEndless, WroteSettled}
+use Rattle.judging.proofs.WalkLaws.{back-after}
+use Rattle.judging.proofs.Ways.{wayTo-length}
 
 -- Numbers put over a part of a list.
 
@@ -116,86 +119,72 @@ step-stored l a r h f t e room =
 
 -- Walks back.
 
-pub back-first : (F : ℕ → ℕ) (k x : ℕ) → back F k (F x) ≡ F (back F k x)
-back-first F zero x = refl
-back-first F (suc k) x = ap F (back-first F k x)
-
 pub length-line : (F K : ℕ → ℕ) (k x : ℕ) → length (lineTo F K k x) ≡ k
 length-line F K zero x = refl
 length-line F K (suc k) x = length-append (lineTo F K k (F x)) (linkStep (F x) (K x) x ∷ []) ∙ omega (arith, length-line F K k (F x))
 
-pub length-way : (parents makers headers : List ℕ) (k s : ℕ) → length (wayTo parents makers headers k s) ≡ k
-length-way parents makers headers zero s = refl
-length-way parents makers headers (suc k) s =
-    length-append (wayTo parents makers headers k (madeOf parents s)) (reachStep (getD makers s 0) (getD headers s 0) ∷ [])
-    ∙ omega (arith, length-way parents makers headers k (madeOf parents s))
-
-way-last : (parents : List ℕ) (k s : ℕ) → wayBack parents (suc k) s ≡ madeOf parents (wayBack parents k s)
-way-last parents zero s = refl
-way-last parents (suc k) s = way-last parents k (madeOf parents s)
+way-last : (ways : List (List ℕ)) (k s : ℕ) → wayBack ways (suc k) s ≡ madeOf ways (wayBack ways k s)
+way-last ways zero s = refl
+way-last ways (suc k) s = way-last ways k (madeOf ways s)
 
 le-or-lt : (a b : ℕ) → (a ≤ b) ⊎ (b < a)
 le-or-lt a b = by-cases (ℕ-discrete (a - b) 0) (λ (e : a - b ≡ 0). inl (omega arith)) (λ (e : a - b ≡ 0 → ⊥). inr (omega arith))
 
--- What holds of each number below k, and of k, holds of each below k + 1.
-each-more : (P : ℕ → Type 0) (k : ℕ) → ((j : ℕ) → j < k → P j) → P k → (j : ℕ) → j < k + 1 → P j
-each-more P k h p j l = ⊎-elim (λ (e : j ≡ k). subst P (sym e) p) (λ (m : j < k). h j m) (eq-or-lt-of-le (omega arith))
-
 -- The way's length, counted from the shape.
-pub record Counting (parents : List ℕ) (count s x k : ℕ) : Type 0 where
+pub record Counting (ways : List (List ℕ)) (count s x k : ℕ) : Type 0 where
   pub below : x < count
   pub falls : k + x ≤ s
-  pub is : x ≡ wayBack parents k s
-  pub made : (j : ℕ) → j < k → 0 < getD parents (wayBack parents j s) 0
+  pub is : x ≡ wayBack ways k s
+  pub made : (j : ℕ) → j < k → 0 < parentAt ways (wayBack ways j s)
 
-pub counting : (parents : List ℕ) (count s : ℕ) → s < count → Counting parents count s s 0
-counting parents count s h = record { below = h; falls = omega arith; is = refl; made = λ j l. absurd (omega arith) }
+pub counting : (ways : List (List ℕ)) (count s : ℕ) → s < count → Counting ways count s s 0
+counting ways count s h = record { below = h; falls = omega arith; is = refl; made = λ j l. absurd (omega arith) }
 
-module _ {parents : List ℕ} {count s x k : ℕ} (f : Falls parents count) (c : Counting parents count s x k) where
-  pub counting-next : (getD parents x 0 ≡ 0 → ⊥) → Counting parents count s (getD parents x 0 - 1) (k + 1)
+module _ {ways : List (List ℕ)} {count s x k : ℕ} (f : Falls ways count) (c : Counting ways count s x k) where
+  pub counting-next : (parentAt ways x ≡ 0 → ⊥) → Counting ways count s (parentAt ways x - 1) (k + 1)
   counting-next n =
       let low = f .before x (c .below) in
       let below = c .below in
       let falls = c .falls in
-      let some : 0 < getD parents x 0 = omega arith in
+      let some : 0 < parentAt ways x = omega arith in
       record {
         below = omega arith;
         falls = omega arith;
-        is = ap (madeOf parents) (c .is) ∙ sym (way-last parents k s) ∙ ap (λ n. wayBack parents n s) (sym (add-one k));
-        made = each-more (λ j. 0 < getD parents (wayBack parents j s) 0) k (c .made) (subst (λ y. 0 < getD parents y 0) (c .is) some);
+        is = ap (madeOf ways) (c .is) ∙ sym (way-last ways k s) ∙ ap (λ n. wayBack ways n s) (sym (add-one k));
+        made = below-more (λ j. 0 < parentAt ways (wayBack ways j s)) k (c .made) (subst (λ y. 0 < parentAt ways y) (c .is) some);
       }
 
-  pub counted-way : getD parents x 0 ≡ 0 → WayLength parents s k
-  counted-way z = let falls = c .falls in record { short = omega arith; row = subst (λ y. getD parents y 0 ≡ 0) (c .is) z; made = c .made }
+  pub counted-way : parentAt ways x ≡ 0 → WayLength ways s k
+  counted-way z = let falls = c .falls in record { short = omega arith; row = subst (λ y. parentAt ways y ≡ 0) (c .is) z; made = c .made }
 
 -- The way's steps, put from the last one on.
-pub record PuttingWay (before parents makers headers : List ℕ) (count s k : ℕ) (steps : List ℕ) (x left : ℕ) : Type 0 where
+pub record PuttingWay (before : List ℕ) (ways : List (List ℕ)) (count s k : ℕ) (steps : List ℕ) (x left : ℕ) : Type 0 where
   pub below : x < count
   pub size : length steps ≡ length before
   pub room : 5 * left ≤ length steps
-  pub made : (j : ℕ) → j < left → 0 < getD parents (wayBack parents j x) 0
-  pub rest : putSteps steps 0 (wayTo parents makers headers left x) ≡ putSteps before 0 (wayTo parents makers headers k s)
-  pub start : wayBack parents left x ≡ wayBack parents k s
+  pub made : (j : ℕ) → j < left → 0 < parentAt ways (wayBack ways j x)
+  pub rest : putSteps steps 0 (wayTo ways left x) ≡ putSteps before 0 (wayTo ways k s)
+  pub start : wayBack ways left x ≡ wayBack ways k s
 
-pub putting-way : (before parents makers headers : List ℕ) (count s k : ℕ) → s < count → WayLength parents s k → 5 * k ≤ length before
-    → PuttingWay before parents makers headers count s k before s k
-putting-way before parents makers headers count s k h w room =
+pub putting-way : (before : List ℕ) (ways : List (List ℕ)) (count s k : ℕ) → s < count → WayLength ways s k → 5 * k ≤ length before
+    → PuttingWay before ways count s k before s k
+putting-way before ways count s k h w room =
     record { below = h; size = refl; room = room; made = w .made; rest = refl; start = refl }
 
-module _ {before parents makers headers : List ℕ} {count s k : ℕ} {steps : List ℕ} {x left : ℕ} (f : Falls parents count)
-    (p : PuttingWay before parents makers headers count s k steps x left) where
-  pub way-made : 0 < left → 0 < getD parents x 0
+module _ {before : List ℕ} {ways : List (List ℕ)} {count s k : ℕ} {steps : List ℕ} {x left : ℕ} (f : Falls ways count)
+    (p : PuttingWay before ways count s k steps x left) where
+  pub way-made : 0 < left → 0 < parentAt ways x
   way-made h = p .made 0 h
 
-  way-next-at : (a : ℕ) → left ≡ suc a → (after : List ℕ) → after ≡ putSteps steps a (oneStep (getD makers x 0) (getD headers x 0) 0 0 0)
-      → PuttingWay before parents makers headers count s k after (getD parents x 0 - 1) a
+  way-next-at : (a : ℕ) → left ≡ suc a → (after : List ℕ) → after ≡ putSteps steps a (oneStep (makerAt ways x) (hLineAt ways x) 0 0 0)
+      → PuttingWay before ways count s k after (parentAt ways x - 1) a
   way-next-at a e after put =
       let low = f .before x (p .below) in
       let below = p .below in
       let room = p .room in
       let some = p .made 0 (omega arith) in
-      let one : List Step = oneStep (getD makers x 0) (getD headers x 0) 0 0 0 in
-      let way : List Step = wayTo parents makers headers a (madeOf parents x) in
+      let one : List Step = oneStep (makerAt ways x) (hLineAt ways x) 0 0 0 in
+      let way : List Step = wayTo ways a (madeOf ways x) in
       let same : length after ≡ length steps = ap length put ∙ length-put steps a one (omega arith) in
       record {
         below = omega arith;
@@ -204,20 +193,20 @@ module _ {before parents makers headers : List ℕ} {count s k : ℕ} {steps : L
         made = λ j l. p .made (suc j) (omega arith);
         rest =
             ap (λ r. putSteps r 0 way) put
-            ∙ put-before steps 0 a way one (omega (arith, length-way parents makers headers a (madeOf parents x))) (omega arith)
-            ∙ ap (λ n. putSteps steps 0 (wayTo parents makers headers n x)) (sym e)
+            ∙ put-before steps 0 a way one (omega (arith, wayTo-length ways a (madeOf ways x))) (omega arith)
+            ∙ ap (λ n. putSteps steps 0 (wayTo ways n x)) (sym e)
             ∙ p .rest;
-        start = ap (λ n. wayBack parents n x) (sym e) ∙ p .start;
+        start = ap (λ n. wayBack ways n x) (sym e) ∙ p .start;
       }
 
-  pub way-next : 0 < left → (after : List ℕ) → after ≡ putSteps steps (left - 1) (oneStep (getD makers x 0) (getD headers x 0) 0 0 0)
-      → PuttingWay before parents makers headers count s k after (getD parents x 0 - 1) (left - 1)
+  pub way-next : 0 < left → (after : List ℕ) → after ≡ putSteps steps (left - 1) (oneStep (makerAt ways x) (hLineAt ways x) 0 0 0)
+      → PuttingWay before ways count s k after (parentAt ways x - 1) (left - 1)
   way-next h = way-next-at (left - 1) (omega arith)
 
-  pub way-put : left ≤ 0 → (steps ≡ putSteps before 0 (wayTo parents makers headers k s)) × (x ≡ wayBack parents k s)
+  pub way-put : left ≤ 0 → (steps ≡ putSteps before 0 (wayTo ways k s)) × (x ≡ wayBack ways k s)
   way-put h =
       let z : left ≡ 0 = omega arith in
-      (sym (put-none steps 0) ∙ ap (λ n. putSteps steps 0 (wayTo parents makers headers n x)) (sym z) ∙ p .rest, ap (λ n. wayBack parents n x) (sym z) ∙ p .start)
+      (sym (put-none steps 0) ∙ ap (λ n. putSteps steps 0 (wayTo ways n x)) (sym z) ∙ p .rest, ap (λ n. wayBack ways n x) (sym z) ∙ p .start)
 
 -- The links of a line, put from the last one on.
 pub record PuttingLine (before : List ℕ) (first k : ℕ) (from link : List (List ℕ)) (x : ℕ) (steps : List ℕ) (y left : ℕ) : Type 0 where
@@ -246,7 +235,7 @@ module _ {before : List ℕ} {first k : ℕ} {from link : List (List ℕ)} {x : 
       let same : length after ≡ length steps = ap length put′ ∙ length-put steps (first + a) one (omega arith) in
       record {
         stays = λ j l.
-            subst (λ n. n < 3584) (sym (ap (back (at from) j) ue ∙ back-first (at from) j y)) (p .stays (suc j) (omega arith));
+            subst (λ n. n < 3584) (sym (ap (back (at from) j) ue ∙ back-after (at from) j y)) (p .stays (suc j) (omega arith));
         size = same ∙ p .size;
         room = omega arith;
         rest =
@@ -296,7 +285,7 @@ module _ {from : List (List ℕ)} {n y : ℕ} (turn : InTurn from n y) {z k : �
       record {
         some = omega arith;
         is = e ∙ ap (at from) (t .is) ∙ ap (λ m. back (at from) m y) (sym (add-one k));
-        first = λ j p l b. each-more (λ i. 0 < i → back (at from) i y ≡ y → ⊥) k (λ i m q. t .first i q m) (λ q c. d (t .is ∙ c)) j l p b;
+        first = λ j p l b. below-more (λ i. 0 < i → back (at from) i y ≡ y → ⊥) k (λ i m q. t .first i q m) (λ q c. d (t .is ∙ c)) j l p b;
       }
 
   pub turned : z ≡ y → TurnLength from n y k
@@ -335,7 +324,7 @@ module _ {generations from : List (List ℕ)} {n x : ℕ} (line : InLine generat
         let some : 0 < at generations y = omega arith in
         record {
           is = e ∙ ap (at from) (t .is) ∙ ap (λ m. back (at from) m x) (sym (add-one k));
-          high = each-more (λ j. 0 < at generations (back (at from) j x)) k (t .high) (subst (λ v. 0 < at generations v) (t .is) some);
+          high = below-more (λ j. 0 < at generations (back (at from) j x)) k (t .high) (subst (λ v. 0 < at generations v) (t .is) some);
         }
 
     pub lined : at generations y ≡ 0 → LineLength generations from n x k
@@ -366,8 +355,8 @@ module _ {from : List (List ℕ)} {k x y left : ℕ} (s : Starting from k x y le
   start-next-at : (a : ℕ) → left ≡ suc a → (u : ℕ) → u ≡ at from y → Starting from k x u a
   start-next-at a e u ue =
       record {
-        stays = λ j l. subst (λ n. n < 3584) (sym (ap (back (at from) j) ue ∙ back-first (at from) j y)) (s .stays (suc j) (omega arith));
-        rest = ap (back (at from) a) ue ∙ back-first (at from) a y ∙ ap (λ n. back (at from) n y) (sym e) ∙ s .rest;
+        stays = λ j l. subst (λ n. n < 3584) (sym (ap (back (at from) j) ue ∙ back-after (at from) j y)) (s .stays (suc j) (omega arith));
+        rest = ap (back (at from) a) ue ∙ back-after (at from) a y ∙ ap (λ n. back (at from) n y) (sym e) ∙ s .rest;
       }
 
   pub start-next : 0 < left → (u : ℕ) → u ≡ at from y → Starting from k x u (left - 1)
@@ -390,7 +379,7 @@ module _ {generations link : List (List ℕ)} {v best : ℕ} (d : Deepest genera
         none = λ e. absurd (omega arith);
         made = λ p. fresh;
         largest =
-            each-more (λ u. weight (at link u) ≡ 1 → at generations u ≤ at generations v) v (λ u l w. let m = d .largest u l w in omega arith) (λ w. omega arith);
+            below-more (λ u. weight (at link u) ≡ 1 → at generations u ≤ at generations v) v (λ u l w. let m = d .largest u l w in omega arith) (λ w. omega arith);
       }
 
   pub deepest-same : (weight (at link v) ≡ 1 → at generations v ≤ at generations best) → Deepest generations link (v + 1) best
@@ -399,7 +388,7 @@ module _ {generations link : List (List ℕ)} {v best : ℕ} (d : Deepest genera
         below = λ p. omega (arith, deepest-node);
         none = λ e. absurd (omega arith);
         made = d .made;
-        largest = each-more (λ u. weight (at link u) ≡ 1 → at generations u ≤ at generations best) v (d .largest) h;
+        largest = below-more (λ u. weight (at link u) ≡ 1 → at generations u ≤ at generations best) v (d .largest) h;
       }
 
 -- Marks counted.
@@ -496,46 +485,46 @@ module _ (numbers : List ℕ) (room : ℕ) (answer : WriteAnswer) (e : writeSays
 -- A way and a line, put one after the other.
 
 module _
-    (parents makers headers : List ℕ)
-    (from link : List (List ℕ))
+    (ways : List (List ℕ))
+    (raises : List (List (List ℕ)))
     (before : List ℕ)
-    (ways links s x : ℕ)
-    (room : 5 * (ways + links) ≤ length before)
+    (reaching links s x : ℕ)
+    (room : 5 * (reaching + links) ≤ length before)
     {middle after : List ℕ}
-    (way-is : middle ≡ putSteps before 0 (wayTo parents makers headers ways s))
-    (line-is : after ≡ putSteps middle ways (lineTo (at from) (at link) links x))
+    (way-is : middle ≡ putSteps before 0 (wayTo ways reaching s))
+    (line-is : after ≡ putSteps middle reaching (lineTo (at (fromOf raises)) (at (linkOf raises)) links x))
   where
-    both-put : after ≡ putSteps before 0 (wayTo parents makers headers ways s ++ lineTo (at from) (at link) links x)
+    both-put : after ≡ putSteps before 0 (wayTo ways reaching s ++ lineTo (at (fromOf raises)) (at (linkOf raises)) links x)
     both-put =
-        let way : List Step = wayTo parents makers headers ways s in
-        let line : List Step = lineTo (at from) (at link) links x in
+        let way : List Step = wayTo ways reaching s in
+        let line : List Step = lineTo (at (fromOf raises)) (at (linkOf raises)) links x in
         line-is
-        ∙ ap (λ r. putSteps r ways line) way-is
-        ∙ put-after before 0 ways way line (omega (arith, length-way parents makers headers ways s))
-        (omega (arith, length-line (at from) (at link) links x))
+        ∙ ap (λ r. putSteps r reaching line) way-is
+        ∙ put-after before 0 reaching way line (omega (arith, wayTo-length ways reaching s))
+        (omega (arith, length-line (at (fromOf raises)) (at (linkOf raises)) links x))
 
-    pub wrote-endless : {count row : ℕ} → WayLength parents s ways → TurnLength from (7 * count) x links → row ≡ getD makers (wayBack parents ways s) 0
-        → s ≡ x / 7 → WroteEndless parents makers headers from link count x before row ways links after
+    pub wrote-endless : {count row : ℕ} → WayLength ways s reaching → TurnLength (fromOf raises) (7 * count) x links → row ≡ makerAt ways (wayBack ways reaching s)
+        → s ≡ x / 7 → WroteEndless ways raises count x before row reaching links after
     wrote-endless way turn first e =
         record {
-          way = subst (λ y. WayLength parents y ways) e way;
+          way = subst (λ y. WayLength ways y reaching) e way;
           turn = turn;
-          first = first ∙ ap (λ y. getD makers (wayBack parents ways y) 0) e;
-          steps = both-put ∙ ap (λ y. putSteps before 0 (wayTo parents makers headers ways y ++ lineTo (at from) (at link) links x)) e;
+          first = first ∙ ap (λ y. makerAt ways (wayBack ways reaching y)) e;
+          steps = both-put ∙ ap (λ y. putSteps before 0 (wayTo ways reaching y ++ lineTo (at (fromOf raises)) (at (linkOf raises)) links x)) e;
         }
 
-    pub wrote-settled : {generations : List (List ℕ)} {count row start : ℕ} → InLine generations from (7 * count) x → LineLength generations from (7 * count) x links
-        → start ≡ back (at from) links x → s ≡ start / 7 → WayLength parents s ways → row ≡ getD makers (wayBack parents ways s) 0
-        → WroteSettled parents makers headers generations from link count x before row (ways + links) after
+    pub wrote-settled : {generations : List (List ℕ)} {count row start : ℕ} → InLine generations (fromOf raises) (7 * count) x → LineLength generations (fromOf raises) (7 * count) x links
+        → start ≡ back (at (fromOf raises)) links x → s ≡ start / 7 → WayLength ways s reaching → row ≡ makerAt ways (wayBack ways reaching s)
+        → WroteSettled ways generations raises count x before row (reaching + links) after
     wrote-settled inline line start-is s-is way first =
-        let e : s ≡ back (at from) links x / 7 = s-is ∙ ap (λ y. y / 7) start-is in
+        let e : s ≡ back (at (fromOf raises)) links x / 7 = s-is ∙ ap (λ y. y / 7) start-is in
         record {
-          ways = ways;
+          reaching = reaching;
           links = links;
           line = line;
           start-below = line-nodes inline line links (omega arith);
-          way = subst (λ y. WayLength parents y ways) e way;
-          first = first ∙ ap (λ y. getD makers (wayBack parents ways y) 0) e;
+          way = subst (λ y. WayLength ways y reaching) e way;
+          first = first ∙ ap (λ y. makerAt ways (wayBack ways reaching y)) e;
           counted = refl;
-          steps = both-put ∙ ap (λ y. putSteps before 0 (wayTo parents makers headers ways y ++ lineTo (at from) (at link) links x)) e;
+          steps = both-put ∙ ap (λ y. putSteps before 0 (wayTo ways reaching y ++ lineTo (at (fromOf raises)) (at (linkOf raises)) links x)) e;
         }

@@ -21,7 +21,7 @@ use Rattle.chase.proofs.BoundLaws.{rows-of-tables}
 use Rattle.chase.proofs.StepLaws.{length-numbers, numbers-append}
 use Rattle.chase.proofs.CertificateLaws.{settled-certificate, settled-at-once, endless-certificate}
 use Rattle.judging.specs.inner.Table.{linesIn, SheetHeld}
-use Rattle.judging.specs.inner.Found.{onesIn}
+use Rattle.judging.specs.inner.Found.{onesIn, makerAt}
 use Rattle.judging.specs.inner.Nodes.{at, back}
 use Rattle.judging.specs.inner.Written.{lineTo, wayBack, wayTo, WayLength, putSteps, Deepest, TurnLength, LineLength}
 use Rattle.judging.specs.inner.Facts.{Facts}
@@ -64,8 +64,8 @@ pub too-many : (lines : List SheetLine) (numbers before : List ℕ) → sheetHel
 too-many lines numbers before sheet room m = (many lines room sheet (over (rulesOf lines) (rowsOf lines) 512 m), refl)
 
 -- The facts of a sheet, and the figures that every verdict has.
-module _ (lines : List SheetLine) (codes index parents makers headers fired : List ℕ) (count : ℕ) (generations from link : List (List ℕ)) (turning : ℕ)
-    (f : Facts lines codes index parents makers headers fired count generations from link turning)
+module _ (lines : List SheetLine) (codes index : List ℕ) (ways : List (List ℕ)) (fired : List ℕ) (count : ℕ) (generations from link : List (List ℕ)) (turning : ℕ)
+    (f : Facts lines codes index ways fired count generations from link turning)
     (numbers before now : List ℕ) (sheet : sheetHeld numbers ≡ good lines) (room : 20480 ≤ length before)
     (v : Verdict) (shapes-is : v .shapes ≡ count) (fired-is : v .fired ≡ onesIn (length (rulesOf lines)) fired)
     (share-is : v .share ≡ share (v .fired) (length (rulesOf lines))) where
@@ -85,9 +85,9 @@ module _ (lines : List SheetLine) (codes index parents makers headers fired : Li
       record {
         lines = lines;
         sheet = sheet;
-        shapes = rw shapes-is (shapes-reached lines codes index parents makers headers fired count generations from link turning f);
+        shapes = rw shapes-is (shapes-reached lines codes index ways fired count generations from link turning f);
         within = omega (arith, f .kept .few);
-        fired = rw fired-is (rules-fired lines codes index parents makers headers fired count generations from link turning f);
+        fired = rw fired-is (rules-fired lines codes index ways fired count generations from link turning f);
         share-is = share-is;
         steps = trail ++ loop;
         count = length-append trail loop ∙ omega arith;
@@ -111,8 +111,8 @@ module _ (lines : List SheetLine) (codes index parents makers headers fired : Li
           deepest = deepest;
           bounded =
               settled-at-once rules rows list (rows-of-tables lines)
-              (list-closed lines codes index parents makers headers fired count generations from link turning f settled)
-              (deepest-is lines codes index parents makers headers fired count generations from link turning f settled x deep ∙ none);
+              (list-closed lines codes index ways fired count generations from link turning f settled)
+              (deepest-is lines codes index ways fired count generations from link turning f settled x deep ∙ none);
           row = row;
           no-trail = refl;
           no-loop = refl;
@@ -120,18 +120,18 @@ module _ (lines : List SheetLine) (codes index parents makers headers fired : Li
   )
 
   settles-from : turning ≡ 0 → (x k w : ℕ) → Deepest generations link (7 * count) x → 0 < at generations x
-      → LineLength generations from (7 * count) x k → WayLength parents (back (at from) k x / 7) w
-      → v .verdict ≡ 1 → v .deepest ≡ at generations x → v .row ≡ getD makers (wayBack parents w (back (at from) k x / 7)) 0
+      → LineLength generations from (7 * count) x k → WayLength ways (back (at from) k x / 7) w
+      → v .verdict ≡ 1 → v .deepest ≡ at generations x → v .row ≡ makerAt ways (wayBack ways w (back (at from) k x / 7))
       → v .trail ≡ w + k → v .loop ≡ 0
-      → now ≡ putSteps before 0 (wayTo parents makers headers w (back (at from) k x / 7) ++ lineTo (at from) (at link) k x)
+      → now ≡ putSteps before 0 (wayTo ways w (back (at from) k x / 7) ++ lineTo (at from) (at link) k x)
       → JudgeMeets 512 numbers before (judged v) now
   settles-from settled x k w deep raised size way verdict deepest row trail loop held =
       let start : ℕ = back (at from) k x / 7 in
-      let steps : List Step = wayTo parents makers headers w start ++ lineTo (at from) (at link) k x in
-      let l = line-found lines codes index parents makers headers fired count generations from link turning f settled x k w raised deep size way in
-      let c = settled-certificate rules rows list (at generations x) (getD makers (wayBack parents w start) 0) (l .row) steps (rows-of-tables lines)
-      (list-closed lines codes index parents makers headers fired count generations from link turning f settled)
-      (deepest-is lines codes index parents makers headers fired count generations from link turning f settled x deep) (l .named) (l .line) in (
+      let steps : List Step = wayTo ways w start ++ lineTo (at from) (at link) k x in
+      let l = line-found lines codes index ways fired count generations from link turning f settled x k w raised deep size way in
+      let c = settled-certificate rules rows list (at generations x) (makerAt ways (wayBack ways w start)) (l .row) steps (rows-of-tables lines)
+      (list-closed lines codes index ways fired count generations from link turning f settled)
+      (deepest-is lines codes index ways fired count generations from link turning f settled x deep) (l .named) (l .line) in (
         room,
         right steps [] (l .size ∙ sym trail) (sym loop) (omega (arith, l .short))
             (held ∙ ap (putSteps before 0) (sym (append-nil steps)))
@@ -152,25 +152,25 @@ module _ (lines : List SheetLine) (codes index parents makers headers fired : Li
 
   -- It settles with a deepest generation above 0, which a line to node x makes.
   pub settles : turning ≡ 0 → (x k w start : ℕ) → Deepest generations link (7 * count) x → 0 < at generations x
-      → LineLength generations from (7 * count) x k → start ≡ back (at from) k x → WayLength parents (start / 7) w
-      → v .verdict ≡ 1 → v .deepest ≡ at generations x → v .row ≡ getD makers (wayBack parents w (start / 7)) 0
+      → LineLength generations from (7 * count) x k → start ≡ back (at from) k x → WayLength ways (start / 7) w
+      → v .verdict ≡ 1 → v .deepest ≡ at generations x → v .row ≡ makerAt ways (wayBack ways w (start / 7))
       → v .trail ≡ w + k → v .loop ≡ 0
-      → now ≡ putSteps before 0 (wayTo parents makers headers w (start / 7) ++ lineTo (at from) (at link) k x)
+      → now ≡ putSteps before 0 (wayTo ways w (start / 7) ++ lineTo (at from) (at link) k x)
       → JudgeMeets 512 numbers before (judged v) now
   settles settled x k w start deep raised size start-is way verdict deepest row trail loop held =
       settles-from settled x k w deep raised size (rw start-is at way) verdict deepest (rw start-is at row) trail loop (rw start-is at held)
 
   -- It is endless: the loop back from node y.
-  pub endless : (y k w : ℕ) → turning ≡ suc y → TurnLength from (7 * count) y k → WayLength parents (y / 7) w
-      → v .verdict ≡ 2 → v .deepest ≡ 0 → v .row ≡ getD makers (wayBack parents w (y / 7)) 0
+  pub endless : (y k w : ℕ) → turning ≡ suc y → TurnLength from (7 * count) y k → WayLength ways (y / 7) w
+      → v .verdict ≡ 2 → v .deepest ≡ 0 → v .row ≡ makerAt ways (wayBack ways w (y / 7))
       → v .trail ≡ w → v .loop ≡ k
-      → now ≡ putSteps before 0 (wayTo parents makers headers w (y / 7) ++ lineTo (at from) (at link) k y)
+      → now ≡ putSteps before 0 (wayTo ways w (y / 7) ++ lineTo (at from) (at link) k y)
       → JudgeMeets 512 numbers before (judged v) now
   endless y k w turns size way verdict deepest row trail loop held =
-      let ss : List Step = wayTo parents makers headers w (y / 7) in
+      let ss : List Step = wayTo ways w (y / 7) in
       let ts : List Step = lineTo (at from) (at link) k y in
-      let l = loop-found lines codes index parents makers headers fired count generations from link turning f y turns k w size way in
-      let c = endless-certificate rules rows (getD makers (wayBack parents w (y / 7)) 0) (l .row) ss ts (l .named) (l .way) (l .loop) in (
+      let l = loop-found lines codes index ways fired count generations from link turning f y turns k w size way in
+      let c = endless-certificate rules rows (makerAt ways (wayBack ways w (y / 7))) (l .row) ss ts (l .named) (l .way) (l .loop) in (
         room,
         right ss ts (l .way-size ∙ sym trail) (l .loop-size ∙ sym loop) (omega (arith, l .short)) held
             (inr

@@ -1,12 +1,21 @@
--- A walk back from node to node: one law for each event. Assumes nothing.
+-- Walks back from node to node: how many links they are, and one law for each event of a walk. Assumes nothing.
 use mathlib.Core.Path.{_≡_, refl, subst, ap, _∙_}
 use mathlib.Core.List.{List}
-use Prim.Native.Nat.{ℕ, _+_, _≤_, _<_}
+use Prim.Native.Nat.{ℕ, zero, suc, _+_, _≤_, _<_}
 use native.Mathlib.Omega.{arith}
 use native.Mathlib.Numerals.{add-one}
 use borrow.Author.Count.{below-more}
 use Rattle.judging.specs.inner.Nodes.{at, back}
 use Rattle.judging.specs.inner.Passes.{Long, Inside, Walked}
+
+module _ (F : ℕ → ℕ) where
+  pub back-after : (k x : ℕ) → back F k (F x) ≡ F (back F k x)
+  back-after zero x = refl
+  back-after (suc k) x = ap F (back-after k x)
+
+  pub back-add : (a b x : ℕ) → back F (a + b) x ≡ back F a (back F b x)
+  back-add zero b x = ap (λ (k : ℕ). back F k x) (let q : 0 + b ≡ b = omega arith in q)
+  back-add (suc a) b x = ap (λ (k : ℕ). back F k x) (let q : suc a + b ≡ suc (a + b) = omega arith in q) ∙ ap F (back-add a b x)
 
 -- The walk is k links back from x, at y.
 pub record Going (n : ℕ) (g from : List (List ℕ)) (x y k : ℕ) : Type 0 where

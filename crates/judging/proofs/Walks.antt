@@ -19,17 +19,10 @@ use Rattle.judging.specs.inner.Nodes.{back, weight, freshBack, Stable, T
 use Rattle.judging.specs.inner.Links.{Link}
 use Rattle.judging.specs.inner.Written.{linkStep, lineTo}
 use Rattle.judging.proofs.Places.{few-below}
+use Rattle.judging.proofs.WalkLaws.{back-after, back-add}
 use Rattle.judging.proofs.LinkSteps.{link-numbers, link-moves, link-to, link-begins, link-ends}
 
 module _ (F K : ℕ → ℕ) where
-  back-after : (k x : ℕ) → back F k (F x) ≡ F (back F k x)
-  back-after zero x = refl
-  back-after (suc k) x = ap F (back-after k x)
-
-  pub back-add : (n i x : ℕ) → back F n (back F i x) ≡ back F (n + i) x
-  back-add zero i x = let z : i ≡ 0 + i = omega arith in ap (λ (k : ℕ). back F k x) z
-  back-add (suc n) i x = let z : suc (n + i) ≡ suc n + i = omega arith in ap F (back-add n i x) ∙ ap (λ (k : ℕ). back F k x) z
-
   -- The link that lies k links back from node x.
   abbrev pub stepAt : ℕ → ℕ → Step
   stepAt k x = linkStep (back F (suc k) x) (K (back F k x)) (back F k x)
@@ -41,7 +34,7 @@ module _ (F K : ℕ → ℕ) where
 
   walk-snoc : (k x : ℕ) → walk k (F x) ++ (linkStep (F x) (K x) x ∷ []) ≡ walk (suc k) x
   walk-snoc zero x = refl
-  walk-snoc (suc k) x = rw (walk-snoc k x, back-after k x)
+  walk-snoc (suc k) x = rw (walk-snoc k x, back-after F k x)
 
   pub line-walk : (k x : ℕ) → lineTo F K k x ≡ walk k x
   line-walk zero x = refl
@@ -66,7 +59,7 @@ module _ (F K : ℕ → ℕ) where
   -- The fresh links back from x: its own, and those back from where it begins.
   freshBack-first : (k x : ℕ) → freshBack F K (suc k) x ≡ weight (K x) + freshBack F K k (F x)
   freshBack-first zero x = omega arith
-  freshBack-first (suc k) x = omega (arith, freshBack-first k x, ap (λ (u : ℕ). weight (K u)) (back-after k x))
+  freshBack-first (suc k) x = omega (arith, freshBack-first k x, ap (λ (u : ℕ). weight (K u)) (back-after F k x))
 
   pub walk-fresh : (rules : List Rule) (k x : ℕ) → freshSteps rules (walk k x) ≡ freshBack F K k x
   walk-fresh rules zero x = refl
@@ -86,7 +79,7 @@ module _ (F K : ℕ → ℕ) where
 
   -- A walk that comes to a node twice never leaves its circle.
   pub meets : (i j n x : ℕ) → back F i x ≡ back F j x → back F (n + i) x ≡ back F (n + j) x
-  meets i j n x e = sym (back-add n i x) ∙ ap (back F n) e ∙ back-add n j x
+  meets i j n x e = back-add F n i x ∙ ap (back F n) e ∙ sym (back-add F n j x)
 
 -- Walks along links of a sheet.
 module _ (rules : List Rule) (codes : List ℕ) (count : ℕ) (fit : All RuleFits rules) (fits : (k : ℕ) → k < count → ShapeFits (shapeNo codes k))
@@ -230,7 +223,7 @@ module _ (rules : List Rule) (codes : List ℕ) (count : ℕ) (fit : All RuleFit
       → (y : ℕ) × (y < 7 * count) × (weight (K y) ≡ 1) × (freshBack F K k x ≤ G y)
   made-along G stable zero x links some = absurd (omega arith)
   made-along G stable (suc k) x links some =
-      go (ℕ-discrete (weight (K x)) 1) (made-along G stable k (F x) (λ j l. rw (back-after F K j x) (links (suc j) (omega arith))))
+      go (ℕ-discrete (weight (K x)) 1) (made-along G stable k (F x) (λ j l. rw (back-after F j x) (links (suc j) (omega arith))))
     where
       go : Dec (weight (K x) ≡ 1)
           → (0 < freshBack F K k (F x) → (y : ℕ) × (y < 7 * count) × (weight (K y) ≡ 1) × (freshBack F K k (F x) ≤ G y))

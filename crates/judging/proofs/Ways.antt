@@ -14,13 +14,13 @@ use Rattle.chase.specs.Counting.{NoTwo}
 use Rattle.chase.specs.Steps.{Step, Goes, Reaching}
 use Rattle.chase.specs.Certificate.{asRecord, shapeAfter, EachShape, lastShape, shapesOn, WayOn}
 use Rattle.chase.proofs.ListLaws.{in-append}
-use Rattle.chase.proofs.StepLaws.{after-made, head-in, lastShape-append}
-use Rattle.chase.proofs.ShapeLaws.{applies-as-record, made-digits}
+use Rattle.chase.proofs.StepLaws.{lastShape-append}
+use Rattle.chase.proofs.CodedLaws.{applies-as-record, after-coded}
 use Rattle.judging.specs.inner.Codes.{shapeFrom}
-use Rattle.judging.specs.inner.Found.{shapeNo, Via, viaRow, viaRule, Kept}
+use Rattle.judging.specs.inner.Found.{shapeNo, Via, viaRow, viaRule, Kept, parentAt, makerAt, hLineAt}
 use Rattle.judging.specs.inner.Written.{reachStep, madeOf, wayBack, wayTo, WayLength}
 use Rattle.judging.proofs.Places.{noTwo-snoc}
-use Rattle.judging.proofs.Counts.{fits-as-record, place-one}
+use Rattle.judging.proofs.FoundLaws.{same-place}
 
 -- Steps one after another, shape by shape.
 module _ (rules : List Rule) where
@@ -33,14 +33,6 @@ module _ (rules : List Rule) where
   shapesOn-append s [] ts = refl
   shapesOn-append s (st ∷ ss) ts = ap (λ (l : List Shape). s ∷ l) (shapesOn-append (shapeAfter rules st s) ss ts)
 
-  -- The shape that a step makes, by its rule and H line.
-  pub goes-to : (st : Step) (s t : Shape) (g : Goes rules st (asRecord s)) → shapeOf (asRecord s) ≡ s → shapeFrom (g .rule) s (g .head) ≡ t
-      → shapeAfter rules st s ≡ t
-  goes-to st s t g own e =
-      ap shapeOf (after-made rules st (asRecord s) g)
-      ∙ made-digits (st .rule) (g .rule) (asRecord s) (g .head) (head-in rules st (asRecord s) g)
-      ∙ ap (λ (u : Shape). shapeFrom (g .rule) u (g .head)) own ∙ e
-
 -- The shapes of some steps, with the last one.
 abbrev allShapes : List Rule → Shape → List Step → List Shape
 allShapes rules s ss = shapesOn rules s ss ++ (lastShape rules s ss ∷ [])
@@ -49,26 +41,26 @@ all-shapes-snoc : (rules : List Rule) (s : Shape) (ss : List Step) (st : Step)
     → allShapes rules s (ss ++ (st ∷ [])) ≡ allShapes rules s ss ++ (shapeAfter rules st (lastShape rules s ss) ∷ [])
 all-shapes-snoc rules s ss st = rw (shapesOn-append rules s ss (st ∷ []), lastShape-append rules s ss (st ∷ []))
 
-pub wayTo-length : (parents makers headers : List ℕ) (w k : ℕ) → length (wayTo parents makers headers w k) ≡ w
-wayTo-length parents makers headers zero k = refl
-wayTo-length parents makers headers (suc w) k =
-    length-append (wayTo parents makers headers w (madeOf parents k)) (reachStep (getD makers k 0) (getD headers k 0) ∷ [])
-    ∙ omega (arith, wayTo-length parents makers headers w (madeOf parents k))
+pub wayTo-length : (ways : List (List ℕ)) (w k : ℕ) → length (wayTo ways w k) ≡ w
+wayTo-length ways zero k = refl
+wayTo-length ways (suc w) k =
+    length-append (wayTo ways w (madeOf ways k)) (reachStep (makerAt ways k) (hLineAt ways k) ∷ [])
+    ∙ omega (arith, wayTo-length ways w (madeOf ways k))
 
-module _ (rules : List Rule) (rows : List Record) (codes index parents makers headers : List ℕ) (count : ℕ)
-    (kept : Kept rules rows codes index parents makers headers count) where
+module _ (rules : List Rule) (rows : List Record) (codes index : List ℕ) (ways : List (List ℕ)) (count : ℕ)
+    (kept : Kept rules rows codes index ways count) where
   -- What w firings that lead to the shape at place k are.
   pub record WayFound (w k : ℕ) : Type 0 where
     pub row : Record
-    pub named : nth rows (getD makers (wayBack parents w k) 0) ≡ some row
-    pub reaching : EachShape rules (Reaching rules) (shapeOf row) (wayTo parents makers headers w k)
-    pub last : lastShape rules (shapeOf row) (wayTo parents makers headers w k) ≡ shapeNo codes k
-    pub different : NoTwo (allShapes rules (shapeOf row) (wayTo parents makers headers w k))
-    pub within : (t : Shape) → In t (allShapes rules (shapeOf row) (wayTo parents makers headers w k)) → (j : ℕ) × (j ≤ k) × (t ≡ shapeNo codes j)
+    pub named : nth rows (makerAt ways (wayBack ways w k)) ≡ some row
+    pub reaching : EachShape rules (Reaching rules) (shapeOf row) (wayTo ways w k)
+    pub last : lastShape rules (shapeOf row) (wayTo ways w k) ≡ shapeNo codes k
+    pub different : NoTwo (allShapes rules (shapeOf row) (wayTo ways w k))
+    pub within : (t : Shape) → In t (allShapes rules (shapeOf row) (wayTo ways w k)) → (j : ℕ) × (j ≤ k) × (t ≡ shapeNo codes j)
 
-  at-row : (k p m d : ℕ) → p ≡ 0 → Via rules rows codes k p m d → (x : Record) × (nth rows m ≡ some x) × (shapeOf x ≡ shapeNo codes k)
-  at-row k p m d z (viaRow x e named is) = (x, named, sym is)
-  at-row k p m d z (viaRule s r h e l named line applies is) = absurd (omega arith)
+  at-row : (k : ℕ) (way : List ℕ) → getD way 0 0 ≡ 0 → Via rules rows codes k way → (x : Record) × (nth rows (getD way 1 0) ≡ some x) × (shapeOf x ≡ shapeNo codes k)
+  at-row k way z (viaRow x e named is) = (x, named, sym is)
+  at-row k way z (viaRule s r h e l named line applies is) = absurd (omega arith)
 
   -- How the shape at place k is made of the one at place s.
   record MadeFrom (k s m d : ℕ) : Type 0 where
@@ -76,10 +68,10 @@ module _ (rules : List Rule) (rows : List Record) (codes index parents makers he
     goes : Goes rules (reachStep m d) (asRecord (shapeNo codes s))
     to : shapeFrom (goes .rule) (shapeNo codes s) (goes .head) ≡ shapeNo codes k
 
-  at-rule : (k p m d : ℕ) → 0 < p → Via rules rows codes k p m d → MadeFrom k (p - 1) m d
-  at-rule k p m d z (viaRow x e named is) = absurd (omega arith)
-  at-rule k p m d z (viaRule s r h e l named line applies is) =
-      let q : p - 1 ≡ s = omega arith in
+  at-rule : (k : ℕ) (way : List ℕ) → 0 < getD way 0 0 → Via rules rows codes k way → MadeFrom k (getD way 0 0 - 1) (getD way 1 0) (getD way 2 0)
+  at-rule k way z (viaRow x e named is) = absurd (omega arith)
+  at-rule k way z (viaRule s r h e l named line applies is) =
+      let q : getD way 0 0 - 1 ≡ s = omega arith in
       rw q
       (record {
         before = l;
@@ -87,23 +79,22 @@ module _ (rules : List Rule) (rows : List Record) (codes index parents makers he
         to = sym is;
       })
 
-  module _ (k w : ℕ) (here : k < count) (m : MadeFrom k (madeOf parents k) (getD makers k 0) (getD headers k 0)) (f : WayFound w (madeOf parents k)) where
+  module _ (k w : ℕ) (here : k < count) (m : MadeFrom k (madeOf ways k) (makerAt ways k) (hLineAt ways k)) (f : WayFound w (madeOf ways k)) where
     abbrev ss : List Step
-    ss = wayTo parents makers headers w (madeOf parents k)
+    ss = wayTo ways w (madeOf ways k)
 
     abbrev st : Step
-    st = reachStep (getD makers k 0) (getD headers k 0)
+    st = reachStep (makerAt ways k) (hLineAt ways k)
 
     abbrev p : ℕ
-    p = madeOf parents k
+    p = madeOf ways k
 
     step-reaching : Reaching rules st (asRecord (shapeNo codes p))
     step-reaching = record { goes = m .goes; from = refl; to = refl; fresh = refl }
 
     step-to : shapeAfter rules st (shapeNo codes p) ≡ shapeNo codes k
     step-to =
-        goes-to rules st (shapeNo codes p) (shapeNo codes k) (m .goes)
-        (fits-as-record (shapeNo codes p) (kept .fits p (omega (arith, m .before)))) (m .to)
+        after-coded rules st (shapeNo codes p) (m .goes) (kept .fits p (omega (arith, m .before)) .own) ∙ m .to
 
     step-last : shapeAfter rules st (lastShape rules (shapeOf (f .row)) ss) ≡ shapeNo codes k
     step-last = rw (f .last) step-to
@@ -115,7 +106,7 @@ module _ (rules : List Rule) (rows : List Record) (codes index parents makers he
     step-new : In (shapeNo codes k) (allShapes rules (shapeOf (f .row)) ss) → ⊥
     step-new i =
         let s = f .within (shapeNo codes k) i in
-        let q = place-one rules rows codes index parents makers headers count kept k (s .0) here (omega (arith, s .1, m .before)) (s .2) in
+        let q = same-place kept k (s .0) here (omega (arith, s .1, m .before)) (s .2) in
         omega (arith, s .1, m .before)
 
     step-within : (t : Shape) → In t (allShapes rules (shapeOf (f .row)) ss ++ (shapeNo codes k ∷ [])) → (j : ℕ) × (j ≤ k) × (t ≡ shapeNo codes j)
@@ -141,10 +132,10 @@ module _ (rules : List Rule) (rows : List Record) (codes index parents makers he
           within = rw step-shapes step-within;
         }
 
-  way-found : (w k : ℕ) → k < count → getD parents (wayBack parents w k) 0 ≡ 0
-      → ((j : ℕ) → j < w → 0 < getD parents (wayBack parents j k) 0) → WayFound w k
+  way-found : (w k : ℕ) → k < count → parentAt ways (wayBack ways w k) ≡ 0
+      → ((j : ℕ) → j < w → 0 < parentAt ways (wayBack ways j k)) → WayFound w k
   way-found zero k here z made =
-      let s = at-row k (getD parents k 0) (getD makers k 0) (getD headers k 0) z (kept .via k here) in
+      let s = at-row k (getD ways k []) z (kept .via k here) in
       record {
         row = s .0;
         named = s .1;
@@ -154,19 +145,19 @@ module _ (rules : List Rule) (rows : List Record) (codes index parents makers he
         within = λ t i. elim i [ inl e ↦ (k, omega arith, e ∙ s .2) | inr a ↦ absurd a ];
       }
   way-found (suc w) k here z made =
-      let m = at-rule k (getD parents k 0) (getD makers k 0) (getD headers k 0) (made 0 (omega arith)) (kept .via k here) in
-      one-more k w here m (way-found w (madeOf parents k) (omega (arith, m .before)) z (λ j l. made (suc j) (omega arith)))
+      let m = at-rule k (getD ways k []) (made 0 (omega arith)) (kept .via k here) in
+      one-more k w here m (way-found w (madeOf ways k) (omega (arith, m .before)) z (λ j l. made (suc j) (omega arith)))
 
   -- The way to the shape at place k.
   pub record WayFrom (w k : ℕ) : Type 0 where
     pub row : Record
-    pub named : nth rows (getD makers (wayBack parents w k) 0) ≡ some row
-    pub way : WayOn rules (shapeOf row) (wayTo parents makers headers w k)
-    pub last : lastShape rules (shapeOf row) (wayTo parents makers headers w k) ≡ shapeNo codes k
-    pub size : length (wayTo parents makers headers w k) ≡ w
+    pub named : nth rows (makerAt ways (wayBack ways w k)) ≡ some row
+    pub way : WayOn rules (shapeOf row) (wayTo ways w k)
+    pub last : lastShape rules (shapeOf row) (wayTo ways w k) ≡ shapeNo codes k
+    pub size : length (wayTo ways w k) ≡ w
     pub short : w ≤ k
 
-  pub way-on : (k w : ℕ) → k < count → WayLength parents k w → WayFrom w k
+  pub way-on : (k w : ℕ) → k < count → WayLength ways k w → WayFrom w k
   way-on k w here l =
       let f = way-found w k here (l .row) (l .made) in
       record {
@@ -174,6 +165,6 @@ module _ (rules : List Rule) (rows : List Record) (codes index parents makers he
         named = f .named;
         way = record { reaching = f .reaching; different = f .different };
         last = f .last;
-        size = wayTo-length parents makers headers w k;
+        size = wayTo-length ways w k;
         short = l .short;
       }

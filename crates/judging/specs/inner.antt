@@ -15,3 +15,4 @@ pub mod Written
 pub mod Trails
 pub mod Facts
 pub mod Judged
+pub mod Ground

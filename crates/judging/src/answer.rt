@@ -4,13 +4,17 @@ ghost use Prim.Native.Nat.{_+_, _*_, _≤_, _<_};
 ghost use lib.ListN.{length};
 ghost use Rattle.chase.specs.Counting.{share as shareOf};
 ghost use Rattle.judging.specs.inner.Found.{onesIn};
-ghost use Rattle.judging.specs.inner.Nodes.{Grid};
+ghost use Rattle.judging.specs.inner.Nodes.{Grid, fromOf};
 ghost use Rattle.judging.specs.inner.Written.{InTurn, InLine};
 ghost use Rattle.judging.specs.inner.Trails.{Lent, WroteEndless, WroteSettled};
-ghost use Rattle.judging.specs.inner.Judged.{SaysEndless, Lines, SaysSettled};
+ghost use Rattle.judging.specs.inner.Judged.{CountsOnly, Counted, SaysEndless, Lines, SaysSettled};
 use crate::Figures;
 use crate::JudgeAnswer;
+use crate::grid::Numbers;
+use crate::grid::Raises;
 use crate::grid::number;
+use crate::search::Found;
+use crate::search::Way;
 use crate::trail;
 
 // Row, trail and loop of an answer; the steps are written.
@@ -20,8 +24,8 @@ struct Path {
     pub turns: usize,
 }
 
-// How many rules are marked as fired.
-pub(crate) fn fired_count(fired: &[u8; 256], rules: usize) -> usize
+// How many rules fired, each with a 1.
+fn fired_count(fired: &[u8; 256], rules: usize) -> usize
     requires { ⌜ (length (now fired) ≡ 256) × (rules ≤ 256) ⌝ }
     ensures { λ r. ⌜ r ≡ onesIn rules (now (fired .entry)) ⌝ }
 {
@@ -37,7 +41,7 @@ pub(crate) fn fired_count(fired: &[u8; 256], rules: usize) -> usize
 }
 
 // 100 × part / whole to the nearest whole number, half upward; 0 where the whole is 0.
-pub(crate) fn share(part: usize, whole: usize) -> usize
+fn share(part: usize, whole: usize) -> usize
     requires { ⌜ (part ≤ 256) × (whole ≤ 256) ⌝ }
     ensures { λ r. ⌜ r ≡ shareOf part whole ⌝ }
 {
@@ -47,25 +51,40 @@ pub(crate) fn share(part: usize, whole: usize) -> usize
     (200 * part + whole) / (2 * whole)
 }
 
+// The figures that are counts: shapes, fired rules and the share; the others are 0.
+pub(crate) fn counts(found: Found, rules: usize) -> Figures
+    requires { ⌜ (length (found .fired) ≡ 256) × (rules ≤ 256) ⌝ }
+    ensures { λ r. ⌜ CountsOnly r × Counted found rules r ⌝ }
+{
+    let by_rule = found.fired;
+    let fired = fired_count(&by_rule, rules);
+    Figures {
+        deepest: 0,
+        shapes: found.count,
+        fired,
+        share: share(fired, rules),
+        row: 0,
+        trail: 0,
+        turns: 0,
+    }
+}
+
 // Writes the way to node y's shape and then the loop back to y.
 fn write_endless(
     steps: &mut [u16],
-    parents: &[u16; 512],
-    makers: &[u16; 512],
-    headers: &[u16; 512],
-    from: &[[u16; 7]; 512],
-    link: &[[u16; 7]; 512],
+    ways: &[Way; 512],
+    raises: &Raises,
     count: usize,
     y: usize,
 ) -> Path
-    requires { ⌜ Lent (now steps) (now parents) (now makers) (now headers) (now from) (now link) count × (y < 7 * count) × InTurn (now from) (7 * count) y ⌝ }
-    ensures { λ r. ⌜ WroteEndless (now (parents .entry)) (now (makers .entry)) (now (headers .entry)) (now (from .entry)) (now (link .entry)) count y
+    requires { ⌜ Lent (now steps) (now ways) count × (y < 7 * count) × InTurn (fromOf (now raises)) (7 * count) y ⌝ }
+    ensures { λ r. ⌜ WroteEndless (now (ways .entry)) (now (raises .entry)) count y
         (now (steps .entry)) (r .row) (r .trail) (r .turns) (now (steps .exit)) ⌝ }
 {
-    let turns = trail::turn_length(7 * count, from, y);
-    let way = trail::way_length(parents, count, y / 7);
-    let row = trail::put_way(steps, parents, makers, headers, count, y / 7, way);
-    trail::put_line(steps, way, turns, from, link, y);
+    let turns = trail::turn_length(7 * count, raises, y);
+    let way = trail::way_length(ways, count, y / 7);
+    let row = trail::put_way(steps, ways, count, y / 7, way);
+    trail::put_links(steps, way, turns, raises, y);
     Path {
         row,
         trail: way,
@@ -76,25 +95,22 @@ fn write_endless(
 // Writes the way to the shape where the line to node x begins and then that line.
 fn write_settled(
     steps: &mut [u16],
-    parents: &[u16; 512],
-    makers: &[u16; 512],
-    headers: &[u16; 512],
-    generations: &[[u16; 7]; 512],
-    from: &[[u16; 7]; 512],
-    link: &[[u16; 7]; 512],
+    ways: &[Way; 512],
+    generations: &Numbers,
+    raises: &Raises,
     count: usize,
     x: usize,
 ) -> Path
-    requires { ⌜ Lent (now steps) (now parents) (now makers) (now headers) (now from) (now link) count × Grid (now generations) × (x < 7 * count)
-        × InLine (now generations) (now from) (7 * count) x ⌝ }
-    ensures { λ r. ⌜ WroteSettled (now (parents .entry)) (now (makers .entry)) (now (headers .entry)) (now (generations .entry)) (now (from .entry)) (now (link .entry)) count x
+    requires { ⌜ Lent (now steps) (now ways) count × Grid (now generations) × (x < 7 * count)
+        × InLine (now generations) (fromOf (now raises)) (7 * count) x ⌝ }
+    ensures { λ r. ⌜ WroteSettled (now (ways .entry)) (now (generations .entry)) (now (raises .entry)) count x
         (now (steps .entry)) (r .row) (r .trail) (now (steps .exit)) × (r .turns ≡ 0) ⌝ }
 {
-    let line = trail::line_length(7 * count, generations, from, x);
-    let start = trail::line_start(line, from, x);
-    let way = trail::way_length(parents, count, start / 7);
-    let row = trail::put_way(steps, parents, makers, headers, count, start / 7, way);
-    trail::put_line(steps, way, line, from, link, x);
+    let line = trail::line_length(7 * count, generations, raises, x);
+    let start = trail::line_start(line, raises, x);
+    let way = trail::way_length(ways, count, start / 7);
+    let row = trail::put_way(steps, ways, count, start / 7, way);
+    trail::put_links(steps, way, line, raises, x);
     Path {
         row,
         trail: way + line,
@@ -102,84 +118,47 @@ fn write_settled(
     }
 }
 
-// The answer for a sheet that is endless, by the loop at node y. The steps are written.
+// The answer for a sheet that is endless, by the loop at node y: the counts, with row, trail and loop. The steps are written.
 pub(crate) fn endless_answer(
     steps: &mut [u16],
-    parents: &[u16; 512],
-    makers: &[u16; 512],
-    headers: &[u16; 512],
-    from: &[[u16; 7]; 512],
-    link: &[[u16; 7]; 512],
-    count: usize,
+    ways: &[Way; 512],
+    raises: &Raises,
     y: usize,
-    fired: usize,
-    part: usize,
+    counts: Figures,
 ) -> JudgeAnswer
-    requires { ⌜ Lent (now steps) (now parents) (now makers) (now headers) (now from) (now link) count × (y < 7 * count) × InTurn (now from) (7 * count) y ⌝ }
-    ensures { λ r. ⌜ SaysEndless (now (parents .entry)) (now (makers .entry)) (now (headers .entry)) (now (from .entry)) (now (link .entry)) count y fired part
-        (now (steps .entry)) r (now (steps .exit)) ⌝ }
+    requires { ⌜ Lent (now steps) (now ways) (counts .shapes) × CountsOnly counts × (y < 7 * counts .shapes) × InTurn (fromOf (now raises)) (7 * counts .shapes) y ⌝ }
+    ensures { λ r. ⌜ SaysEndless (now (ways .entry)) (now (raises .entry)) (counts .shapes) y counts (now (steps .entry)) r (now (steps .exit)) ⌝ }
 {
-    let path = write_endless(steps, parents, makers, headers, from, link, count, y);
-    JudgeAnswer::Endless(Figures {
-        deepest: 0,
-        shapes: count,
-        fired,
-        share: part,
-        row: path.row,
-        trail: path.trail,
-        turns: path.turns,
-    })
+    let path = write_endless(steps, ways, raises, counts.shapes, y);
+    let mut figures = counts;
+    figures.row = path.row;
+    figures.trail = path.trail;
+    figures.turns = path.turns;
+    JudgeAnswer::Endless(figures)
 }
 
-// The answer for a sheet that settles. Where the deepest generation is above 0, the steps that make a number of it are written.
+// The answer for a sheet that settles: the counts, with the deepest generation. Where that is above 0, row and trail too, and the steps that make a number of it are written.
 pub(crate) fn settled_answer(
     steps: &mut [u16],
-    parents: &[u16; 512],
-    makers: &[u16; 512],
-    headers: &[u16; 512],
-    generations: &[[u16; 7]; 512],
-    from: &[[u16; 7]; 512],
-    link: &[[u16; 7]; 512],
-    count: usize,
-    fired: usize,
-    part: usize,
+    ways: &[Way; 512],
+    generations: &Numbers,
+    raises: &Raises,
+    counts: Figures,
 ) -> JudgeAnswer
-    requires { ⌜ Lent (now steps) (now parents) (now makers) (now headers) (now from) (now link) count × Grid (now generations)
-        × Lines (now generations) (now from) count ⌝ }
-    ensures { λ r. ⌜ SaysSettled (now (parents .entry)) (now (makers .entry)) (now (headers .entry)) (now (generations .entry)) (now (from .entry)) (now (link .entry)) count fired part
-        (now (steps .entry)) r (now (steps .exit)) ⌝ }
+    requires { ⌜ Lent (now steps) (now ways) (counts .shapes) × CountsOnly counts × Grid (now generations)
+        × Lines (now generations) (fromOf (now raises)) (counts .shapes) ⌝ }
+    ensures { λ r. ⌜ SaysSettled (now (ways .entry)) (now (generations .entry)) (now (raises .entry)) (counts .shapes) counts (now (steps .entry)) r (now (steps .exit)) ⌝ }
 {
-    let x = trail::deepest(7 * count, generations, link);
+    let count = counts.shapes;
+    let x = trail::deepest(7 * count, generations, raises);
     let deepest = number(generations, x) as usize;
     if deepest == 0 {
-        return JudgeAnswer::Settles(Figures {
-            deepest,
-            shapes: count,
-            fired,
-            share: part,
-            row: 0,
-            trail: 0,
-            turns: 0,
-        });
+        return JudgeAnswer::Settles(counts);
     }
-    let path = write_settled(
-        steps,
-        parents,
-        makers,
-        headers,
-        generations,
-        from,
-        link,
-        count,
-        x,
-    );
-    JudgeAnswer::Settles(Figures {
-        deepest,
-        shapes: count,
-        fired,
-        share: part,
-        row: path.row,
-        trail: path.trail,
-        turns: path.turns,
-    })
+    let path = write_settled(steps, ways, generations, raises, count, x);
+    let mut figures = counts;
+    figures.deepest = deepest;
+    figures.row = path.row;
+    figures.trail = path.trail;
+    JudgeAnswer::Settles(figures)
 }

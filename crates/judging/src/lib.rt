@@ -10,6 +10,7 @@ mod shape;
 mod spread;
 mod table;
 mod trail;
+mod wide;
 
 ghost use mathlib.Core.Path.{_≡_};
 ghost use Prim.Native.Nat.{_≤_};
@@ -17,11 +18,10 @@ ghost use lib.ListN.{length};
 ghost use Rattle.chase.specs.Judge.{JudgeMeets, shapeLimit};
 ghost use Rattle.judging.specs.Answer.{judgeSays, judgeRefusalNumber, judgeRefusalLine};
 ghost use Rattle.judging.specs.inner.Table.{SheetHeld, FirstWrong, rulesIn, tableRules, TableFits};
-ghost use Rattle.judging.specs.inner.Firing.{ByKind};
-ghost use Rattle.judging.specs.inner.Noted.{Noted};
-ghost use Rattle.judging.specs.inner.Judged.{SomeKnown, RightForKnown};
+use notes::Note;
 use sheet::Refusal;
 use sheet::WriteAnswer;
+use spread::Turning;
 
 // Why judging is refused.
 pub enum JudgeRefusal {
@@ -124,9 +124,8 @@ fn judge_few_lines(
     requires { ⌜ SheetHeld (now lines) × (20480 ≤ length (now steps)) × TableFits (now table) rules × (tableRules (now table) rules ≡ rulesIn (now lines)) ⌝ }
     ensures { λ r. ⌜ JudgeMeets shapeLimit (now (lines .entry)) (now (steps .entry)) (judgeSays r) (now (steps .exit)) ⌝ }
 {
-    let mut firings = [0u16; 2048];
-    let mut targets = [0u16; 2048];
-    judge_rules(lines, steps, table, rules, &mut firings, &mut targets)
+    let mut notes = [[0u16; 2]; 2048];
+    judge_rules(lines, steps, table, rules, &mut notes)
 }
 
 // Judges a sheet of any number of lines, with room for 8,192 notes.
@@ -139,30 +138,26 @@ fn judge_many_lines(
     requires { ⌜ SheetHeld (now lines) × (20480 ≤ length (now steps)) × TableFits (now table) rules × (tableRules (now table) rules ≡ rulesIn (now lines)) ⌝ }
     ensures { λ r. ⌜ JudgeMeets shapeLimit (now (lines .entry)) (now (steps .entry)) (judgeSays r) (now (steps .exit)) ⌝ }
 {
-    let mut firings = [0u16; 8192];
-    let mut targets = [0u16; 8192];
-    judge_rules(lines, steps, table, rules, &mut firings, &mut targets)
+    let mut notes = [[0u16; 2]; 8192];
+    judge_rules(lines, steps, table, rules, &mut notes)
 }
 
-// Judges a sheet by its rules, with room for notes of firings.
+// Judges a sheet by its rules, with room for notes of firings: finds its shapes, raises their generations, and answers by what these come to.
 fn judge_rules(
     lines: &[u32],
     steps: &mut [u16],
     table: &[u8; 16384],
     rules: usize,
-    firings: &mut [u16],
-    targets: &mut [u16],
+    notes: &mut [Note],
 ) -> JudgeAnswer
     requires { ⌜ SheetHeld (now lines) × (20480 ≤ length (now steps)) × TableFits (now table) rules × (tableRules (now table) rules ≡ rulesIn (now lines))
-        × (length (now firings) ≤ 8192) × (length (now targets) ≡ length (now firings)) ⌝ }
+        × (length (now notes) ≤ 8192) ⌝ }
     ensures { λ r. ⌜ JudgeMeets shapeLimit (now (lines .entry)) (now (steps .entry)) (judgeSays r) (now (steps .exit)) ⌝ }
 {
     let kinds = kinds::by_kind(table, rules);
     let mut shapes = [0u32; 512];
     let mut index = search::no_index();
-    let mut parents = [0u16; 512];
-    let mut makers = [0u16; 512];
-    let mut headers = [0u16; 512];
+    let mut ways = [[0u16; 3]; 512];
     let mut starts = [0u32; 513];
     let found = search::search(
         lines,
@@ -171,100 +166,30 @@ fn judge_rules(
         &kinds,
         &mut shapes,
         &mut index,
-        &mut parents,
-        &mut makers,
-        &mut headers,
-        firings,
-        targets,
+        &mut ways,
+        notes,
         &mut starts,
     );
     if found.full {
         return JudgeAnswer::Refused(JudgeRefusal::ShapesOver);
     }
-    let marks = found.fired;
-    judge_found(
-        steps,
+    let counts = answer::counts(found, rules);
+    let mut generations = grid::no_numbers();
+    let mut raises = grid::no_raises();
+    let turning = spread::spread(
         table,
         rules,
         &kinds,
         &shapes,
         &index,
-        &parents,
-        &makers,
-        &headers,
-        &marks,
-        firings,
-        targets,
+        notes,
         &starts,
-        found.count,
-    )
-}
-
-// Judges a sheet by the shapes that were found, all of them.
-fn judge_found(
-    steps: &mut [u16],
-    table: &[u8; 16384],
-    rules: usize,
-    kinds: &[u16; 321],
-    shapes: &[u32; 512],
-    index: &[u16; 17792],
-    parents: &[u16; 512],
-    makers: &[u16; 512],
-    headers: &[u16; 512],
-    marks: &[u8; 256],
-    firings: &[u16],
-    targets: &[u16],
-    starts: &[u32; 513],
-    count: usize,
-) -> JudgeAnswer
-    requires { ⌜ SomeKnown (now table) rules (now shapes) (now index) (now parents) (now makers) (now headers) (now marks) count × (20480 ≤ length (now steps)) × ByKind (now table) rules (now kinds)
-        × Noted (now table) rules (now shapes) (now index) (now firings) (now targets) (now starts) count ⌝ }
-    ensures { λ r. ⌜ RightForKnown (now (table .entry)) rules (now (shapes .entry)) (now (index .entry)) (now (parents .entry)) (now (makers .entry)) (now (headers .entry))
-        (now (marks .entry)) count (now (steps .entry)) r (now (steps .exit)) ⌝ }
-{
-    let fired = answer::fired_count(marks, rules);
-    let part = answer::share(fired, rules);
-    let mut generations = grid::no_numbers();
-    let mut from = grid::no_numbers();
-    let mut link = grid::no_numbers();
-    let turning = spread::spread(
-        table,
-        rules,
-        kinds,
-        shapes,
-        index,
-        firings,
-        targets,
-        starts,
-        count,
+        counts.shapes,
         &mut generations,
-        &mut from,
-        &mut link,
+        &mut raises,
     );
-    if turning != 0 {
-        return answer::endless_answer(
-            steps,
-            parents,
-            makers,
-            headers,
-            &from,
-            &link,
-            count,
-            turning - 1,
-            fired,
-            part,
-        );
+    match turning {
+        Turning::Nowhere => answer::settled_answer(steps, &ways, &generations, &raises, counts),
+        Turning::At(y) => answer::endless_answer(steps, &ways, &raises, y, counts),
     }
-    answer::settled_answer(
-        steps,
-        parents,
-        makers,
-        headers,
-        &generations,
-        &from,
-        &link,
-        count,
-        fired,
-        part,
-    )
 }

@@ -1,5 +1,6 @@
-// Notes of firings: the rule and the H line of each, and the place of the shape that it makes.
+// Notes of firings.
 ghost use mathlib.Core.Path.{_≡_};
+ghost use mathlib.Core.List.{[], _∷_};
 ghost use Prim.Native.Nat.{_+_, _-_, _*_, _≤_, _<_};
 ghost use lib.ListN.{length};
 ghost use Rattle.judging.specs.inner.Table.{TableFits};
@@ -11,14 +12,16 @@ use crate::shape::made;
 use crate::shape::next_fire;
 use crate::shape::rule_byte;
 
-// Notes firing number k, where there is room: its rule and H line as 8 × rule + 2 × H line, and the place of the shape that it makes.
-pub(crate) fn note(firings: &mut [u16], targets: &mut [u16], k: usize, link: usize, place: u16)
-    requires { ⌜ (length (now targets) ≡ length (now firings)) × (link < 65536) × (1 ≤ place) ⌝ }
-    ensures { λ _. ⌜ WrittenAt (now (firings .entry)) (now (firings .exit)) k link × WrittenAt (now (targets .entry)) (now (targets .exit)) k (place - 1) ⌝ }
+// A firing: its rule and H line, counted from 0, as 8 × rule + 2 × H line, and the place of the shape that it makes.
+pub(crate) type Note = [u16; 2];
+
+// Notes firing number k, where there is room. `place` is one more than the place of the shape that it makes.
+pub(crate) fn note(notes: &mut [Note], k: usize, firing: usize, place: u16)
+    requires { ⌜ (firing < 65536) × (1 ≤ place) ⌝ }
+    ensures { λ _. ⌜ WrittenAt (now (notes .entry)) (now (notes .exit)) k (firing ∷ (place - 1) ∷ []) ⌝ }
 {
-    if k < firings.len() {
-        firings[k] = link as u16;
-        targets[k] = place - 1;
+    if k < notes.len() {
+        notes[k] = [firing as u16, place - 1];
     }
 }
 
@@ -29,13 +32,12 @@ pub(crate) fn note_shape(
     kinds: &[u16; 321],
     shape: usize,
     index: &[u16; 17792],
-    firings: &mut [u16; 1024],
-    targets: &mut [u16; 1024],
+    notes: &mut [Note; 1024],
 ) -> usize
     requires { ⌜ TableFits (now table) rules × (length (now index) ≡ 17792) × (shape < 17792) × ShapeFits (shapeAt shape) × Onward (now table) rules (now index) 3584 shape × ByKind (now table) rules (now kinds)
-        × (length (now firings) ≡ 1024) × (length (now targets) ≡ 1024) ⌝ }
-    ensures { λ k. ⌜ (length (now (firings .exit)) ≡ 1024) × (length (now (targets .exit)) ≡ 1024)
-        × (k ≤ 1024) × ShapeNotes (now (table .entry)) rules (now (index .entry)) (now (firings .exit)) (now (targets .exit)) shape 0 k ⌝ }
+        × (length (now notes) ≡ 1024) ⌝ }
+    ensures { λ k. ⌜ (length (now (notes .exit)) ≡ 1024) × (k ≤ 1024)
+        × ShapeNotes (now (table .entry)) rules (now (index .entry)) (now (notes .exit)) shape 0 k ⌝ }
 {
     let kind = shape / 278 + 1;
     let digits = sheet::digits(shape % 278 + 1);
@@ -46,7 +48,7 @@ pub(crate) fn note_shape(
         let mut h: usize = 0;
         while h < heads {
             let code = made(table, rules, r, h, digits);
-            note(firings, targets, k, 8 * r + 2 * h, index[code]);
+            note(notes, k, 8 * r + 2 * h, index[code]);
             k += 1;
             h += 1;
         }

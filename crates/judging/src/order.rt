@@ -5,13 +5,13 @@ ghost use mathlib.Core.Path.{_≡_};
 ghost use Prim.Native.Nat.{_≤_, _<_};
 ghost use lib.ListN.{length};
 ghost use Rattle.judging.specs.inner.Order.{Opens, Ordered};
-use crate::table;
-use crate::trail;
+use crate::notes::Note;
+use crate::wide;
 
 // The first note on shape `s`, from the one to look at next on, that leads to a shape without a mark; the number of places for notes where
 // there is none, or where the notes on the shape had no room.
 fn open_note(
-    targets: &[u16],
+    notes: &[Note],
     starts: &[u32; 513],
     next: &[u32; 513],
     marks: &[u8; 512],
@@ -19,16 +19,16 @@ fn open_note(
     s: usize,
 ) -> usize
     requires { ⌜ (length (now starts) ≡ 513) × (length (now next) ≡ 513) × (length (now marks) ≡ 512) × (count ≤ 512) × (s < 512) ⌝ }
-    ensures { λ k. ⌜ Opens (now (targets .entry)) (now (marks .entry)) count k ⌝ }
+    ensures { λ k. ⌜ Opens (now (notes .entry)) (now (marks .entry)) count k ⌝ }
 {
-    let room = targets.len();
-    let end = table::wide(starts[s + 1]);
+    let room = notes.len();
+    let end = wide::of_u32(starts[s + 1]);
     if room < end {
         return room;
     }
-    let mut k = table::wide(next[s]);
+    let mut k = wide::of_u32(next[s]);
     while k < end {
-        let t = trail::wide(targets[k]);
+        let t = wide::of_u16(notes[k][1]);
         if t < count {
             if marks[t] == 0 {
                 return k;
@@ -40,11 +40,11 @@ fn open_note(
 }
 
 // The order that the walk finds: a shape is put down, from the last place to the first, when all that it leads to is marked.
-fn walked(targets: &[u16], starts: &[u32; 513], count: usize) -> [u16; 512]
-    requires { ⌜ (length (now targets) ≤ 8192) × (length (now starts) ≡ 513) × (count ≤ 512) ⌝ }
+fn walked(notes: &[Note], starts: &[u32; 513], count: usize) -> [u16; 512]
+    requires { ⌜ (length (now notes) ≤ 8192) × (length (now starts) ≡ 513) × (count ≤ 512) ⌝ }
     ensures { λ order. ⌜ Ordered order count ⌝ }
 {
-    let room = targets.len() as u32;
+    let room = notes.len() as u32;
     let mut order = [0u16; 512];
     let mut left = count;
     let mut marks = [0u8; 512];
@@ -67,9 +67,9 @@ fn walked(targets: &[u16], starts: &[u32; 513], count: usize) -> [u16; 512]
         }
         while 0 < depth {
             let s = stack[depth - 1] as usize;
-            let k = open_note(targets, starts, &next, &marks, count, s);
-            if k < targets.len() {
-                let t = targets[k];
+            let k = open_note(notes, starts, &next, &marks, count, s);
+            if k < notes.len() {
+                let t = notes[k][1];
                 next[s] = k as u32;
                 marks[t as usize] = 1;
                 stack[depth] = t;
@@ -114,20 +114,20 @@ fn any_waits(waiting: &[u8; 512], count: usize) -> bool
 }
 
 // Whether more than one note leads to a shape found before its own, or notes had no room.
-fn leads_back(targets: &[u16], starts: &[u32; 513], count: usize) -> bool
+fn leads_back(notes: &[Note], starts: &[u32; 513], count: usize) -> bool
     requires { ⌜ (length (now starts) ≡ 513) × (count ≤ 512) ⌝ }
 {
     let mut once = false;
     let mut k: usize = 0;
     let mut s: usize = 0;
     while s < count {
-        if table::wide(starts[s + 1]) <= k {
+        if wide::of_u32(starts[s + 1]) <= k {
             s += 1;
         } else {
-            if targets.len() <= k {
+            if notes.len() <= k {
                 return true;
             }
-            if trail::wide(targets[k]) < s {
+            if wide::of_u16(notes[k][1]) < s {
                 if once {
                     return true;
                 }
@@ -143,16 +143,16 @@ fn leads_back(targets: &[u16], starts: &[u32; 513], count: usize) -> bool
 // more at most.
 pub(crate) fn order_of(
     waiting: &[u8; 512],
-    targets: &[u16],
+    notes: &[Note],
     starts: &[u32; 513],
     count: usize,
 ) -> [u16; 512]
-    requires { ⌜ (length (now waiting) ≡ 512) × (length (now targets) ≤ 8192) × (length (now starts) ≡ 513) × (count ≤ 512) ⌝ }
+    requires { ⌜ (length (now waiting) ≡ 512) × (length (now notes) ≤ 8192) × (length (now starts) ≡ 513) × (count ≤ 512) ⌝ }
     ensures { λ order. ⌜ Ordered order count ⌝ }
 {
     if any_waits(waiting, count) {
-        if leads_back(targets, starts, count) {
-            return walked(targets, starts, count);
+        if leads_back(notes, starts, count) {
+            return walked(notes, starts, count);
         }
     }
     as_found(count)

@@ -2,20 +2,33 @@
 ghost use mathlib.Core.Bool.{false};
 ghost use mathlib.Core.Path.{_≡_};
 ghost use native.Mathlib.Decide.{ℕ-discrete};
-ghost use Prim.Native.Nat.{_+_, _-_, _*_, _≤_, _<_};
+ghost use mathlib.Core.List.{[], _∷_};
+ghost use Prim.Native.Nat.{_+_, _*_, _≤_, _<_};
 ghost use lib.ListN.{length, getD, set};
 ghost use Rattle.patterns.specs.Pattern.{pattern};
 ghost use Rattle.judging.specs.inner.Table.{SheetHeld, rulesIn, rowsIn, tableRules, KindFits, TableFits};
 ghost use Rattle.judging.specs.inner.Codes.{CodeIs};
 ghost use Rattle.judging.specs.inner.Firing.{ByKind};
 ghost use Rattle.judging.specs.inner.Found.{Searched};
-ghost use Rattle.judging.specs.inner.Noted.{WrittenAt, Noted};
+ghost use Rattle.judging.specs.inner.Noted.{Noted};
 ghost use Rattle.judging.specs.inner.Rows.{Clear, rowNumbers, RowAt, RowsFound, RowsTried};
+use crate::notes::Note;
 use crate::notes::note;
 use crate::shape::made;
 use crate::shape::next_fire;
 use crate::shape::rule_byte;
 use crate::shape::shape_code;
+use sheet::LETTER_K;
+use sheet::LETTER_R;
+
+// How a shape was reached: one more than the place of the shape that it was made of, 0 where a row has it; the number of the rule that made it, or of the row; the number of the rule's H line, 0 where a row has it.
+pub(crate) type Way = [u16; 3];
+
+// What the search for the shapes of the rows finds: how many there are, or that there are more than 512.
+enum RowShapes {
+    Count(usize),
+    Over,
+}
 
 // What the search found beside the shapes.
 pub(crate) struct Found {
@@ -38,23 +51,19 @@ pub(crate) fn no_index() -> [u16; 17792]
 fn push(
     shapes: &mut [u32; 512],
     index: &mut [u16; 17792],
-    parents: &mut [u16; 512],
-    makers: &mut [u16; 512],
-    headers: &mut [u16; 512],
+    ways: &mut [Way; 512],
     count: usize,
     code: usize,
     parent: usize,
     maker: usize,
-    header: usize,
+    line: usize,
 )
-    requires { ⌜ (length (now shapes) ≡ 512) × (length (now index) ≡ 17792) × (length (now parents) ≡ 512) × (length (now makers) ≡ 512) × (length (now headers) ≡ 512) × (count < 512) × (code < 17792) × (parent ≤ 1024) × (maker ≤ 1024) × (header ≤ 1024) ⌝ }
-    ensures { λ _. ⌜ (now (shapes .exit) ≡ set (now (shapes .entry)) count code) × (now (index .exit) ≡ set (now (index .entry)) code (count + 1)) × (now (parents .exit) ≡ set (now (parents .entry)) count parent) × (now (makers .exit) ≡ set (now (makers .entry)) count maker) × (now (headers .exit) ≡ set (now (headers .entry)) count header) ⌝ }
+    requires { ⌜ (count < 512) × (code < 17792) × (parent ≤ 1024) × (maker ≤ 1024) × (line ≤ 1024) ⌝ }
+    ensures { λ _. ⌜ (now (shapes .exit) ≡ set (now (shapes .entry)) count code) × (now (index .exit) ≡ set (now (index .entry)) code (count + 1)) × (now (ways .exit) ≡ set (now (ways .entry)) count (parent ∷ maker ∷ line ∷ [])) ⌝ }
 {
     shapes[count] = code as u32;
     index[code] = (count + 1) as u16;
-    parents[count] = parent as u16;
-    makers[count] = maker as u16;
-    headers[count] = header as u16;
+    ways[count] = [parent as u16, maker as u16, line as u16];
 }
 
 // The shape of the row at line `n`, whose kind has this width.
@@ -67,7 +76,7 @@ fn row_code(lines: &[u32], n: usize, width: usize) -> usize
     shape_code(lines[8 * n + 1], &lines[at..end])
 }
 
-// Finds the shape of the row at line `n`. Answers how many shapes there are then; 513 where there are more than 512.
+// Finds the shape of the row at line `n`. Answers how many shapes there are then.
 fn find_row(
     lines: &[u32],
     n: usize,
@@ -75,47 +84,32 @@ fn find_row(
     row: usize,
     shapes: &mut [u32; 512],
     index: &mut [u16; 17792],
-    parents: &mut [u16; 512],
-    makers: &mut [u16; 512],
-    headers: &mut [u16; 512],
+    ways: &mut [Way; 512],
     count: usize,
-) -> usize
-    requires { ⌜ RowAt (now lines) n width (row + 1) × RowsFound (rulesIn (now lines)) (rowsIn (now lines)) (now shapes) (now index) (now parents) (now makers) (now headers) count row ⌝ }
-    ensures { λ r. ⌜ RowsTried (rulesIn (now (lines .entry))) (rowsIn (now (lines .entry))) (now (shapes .exit)) (now (index .exit)) (now (parents .exit)) (now (makers .exit)) (now (headers .exit)) r (row + 1) ⌝ }
+) -> RowShapes
+    requires { ⌜ RowAt (now lines) n width (row + 1) × RowsFound (rulesIn (now lines)) (rowsIn (now lines)) (now shapes) (now index) (now ways) count row ⌝ }
+    ensures { λ r. ⌜ RowsTried (rulesIn (now (lines .entry))) (rowsIn (now (lines .entry))) (now (shapes .exit)) (now (index .exit)) (now (ways .exit)) (row + 1) r ⌝ }
 {
     let code = row_code(lines, n, width);
     if index[code] != 0 {
-        return count;
+        return RowShapes::Count(count);
     }
     if count == 512 {
-        return 513;
+        return RowShapes::Over;
     }
-    push(
-        shapes,
-        index,
-        parents,
-        makers,
-        headers,
-        count,
-        code,
-        0,
-        row + 1,
-        0,
-    );
-    count + 1
+    push(shapes, index, ways, count, code, 0, row + 1, 0);
+    RowShapes::Count(count + 1)
 }
 
-// Finds the shapes of the rows. Answers how many there are; 513 where there are more than 512.
+// Finds the shapes of the rows.
 fn find_rows(
     lines: &[u32],
     shapes: &mut [u32; 512],
     index: &mut [u16; 17792],
-    parents: &mut [u16; 512],
-    makers: &mut [u16; 512],
-    headers: &mut [u16; 512],
-) -> usize
-    requires { ⌜ SheetHeld (now lines) × (length (now shapes) ≡ 512) × Clear (now index) 17792 × (length (now parents) ≡ 512) × (length (now makers) ≡ 512) × (length (now headers) ≡ 512) ⌝ }
-    ensures { λ r. ⌜ RowsTried (rulesIn (now (lines .entry))) (rowsIn (now (lines .entry))) (now (shapes .exit)) (now (index .exit)) (now (parents .exit)) (now (makers .exit)) (now (headers .exit)) r (length (rowsIn (now (lines .entry)))) ⌝ }
+    ways: &mut [Way; 512],
+) -> RowShapes
+    requires { ⌜ SheetHeld (now lines) × (length (now shapes) ≡ 512) × Clear (now index) 17792 × (length (now ways) ≡ 512) ⌝ }
+    ensures { λ r. ⌜ RowsTried (rulesIn (now (lines .entry))) (rowsIn (now (lines .entry))) (now (shapes .exit)) (now (index .exit)) (now (ways .exit)) (length (rowsIn (now (lines .entry)))) r ⌝ }
 {
     let mut widths = [0u32; 65];
     let mut count: usize = 0;
@@ -124,29 +118,27 @@ fn find_rows(
     while 8 * n < lines.len() {
         let letter = lines[8 * n];
         let kind = lines[8 * n + 1] as usize;
-        if letter == 75 {
+        if letter == LETTER_K {
             widths[kind] = lines[8 * n + 2];
-        } else if letter == 82 {
-            count = find_row(
+        } else if letter == LETTER_R {
+            match find_row(
                 lines,
                 n,
                 widths[kind] as usize,
                 row,
                 shapes,
                 index,
-                parents,
-                makers,
-                headers,
+                ways,
                 count,
-            );
-            if 512 < count {
-                return count;
+            ) {
+                RowShapes::Count(found) => count = found,
+                RowShapes::Over => return RowShapes::Over,
             }
             row += 1;
         }
         n += 1;
     }
-    count
+    RowShapes::Count(count)
 }
 
 // Finds the shapes that the rules reach from the rows, up to 512, in the order of discovery, and which rules fire. Notes the firings.
@@ -158,31 +150,27 @@ pub(crate) fn search(
     shapes: &mut [u32; 512],
     // One more than the place of a shape among those found; 0 where it was not found.
     index: &mut [u16; 17792],
-    // One more than the place of the shape that it was made of; 0 where a row has it.
-    parents: &mut [u16; 512],
-    // The number of the rule that made it, or of the row that has it.
-    makers: &mut [u16; 512],
-    // The number of the H line that made it; 0 where a row has it.
-    headers: &mut [u16; 512],
-    // The rule and the H line of each noted firing, as 8 × rule + 2 × H line.
-    firings: &mut [u16],
-    // The place of the shape that each makes.
-    targets: &mut [u16],
+    ways: &mut [Way; 512],
+    notes: &mut [Note],
     // Where the notes of each shape begin; those of the last end where the next would begin.
     starts: &mut [u32; 513],
 ) -> Found
-    requires { ⌜ SheetHeld (now lines) × TableFits (now table) rules × (tableRules (now table) rules ≡ rulesIn (now lines)) × (length (now shapes) ≡ 512) × Clear (now index) 17792 × (length (now parents) ≡ 512) × (length (now makers) ≡ 512) × (length (now headers) ≡ 512) × ByKind (now table) rules (now kinds)
-        × (length (now firings) ≤ 8192) × (length (now targets) ≡ length (now firings)) × (length (now starts) ≡ 513) ⌝ }
-    ensures { λ r. ⌜ Searched (rulesIn (now (lines .entry))) (rowsIn (now (lines .entry))) (now (shapes .exit)) (now (index .exit)) (now (parents .exit)) (now (makers .exit)) (now (headers .exit)) (r .fired) (r .count) (r .full)
-        × (r .full ≡ false → Noted (now (table .entry)) rules (now (shapes .exit)) (now (index .exit)) (now (firings .exit)) (now (targets .exit)) (now (starts .exit)) (r .count)) ⌝ }
+    requires { ⌜ SheetHeld (now lines) × TableFits (now table) rules × (tableRules (now table) rules ≡ rulesIn (now lines)) × (length (now shapes) ≡ 512) × Clear (now index) 17792 × (length (now ways) ≡ 512) × ByKind (now table) rules (now kinds)
+        × (length (now notes) ≤ 8192) × (length (now starts) ≡ 513) ⌝ }
+    ensures { λ r. ⌜ Searched (rulesIn (now (lines .entry))) (rowsIn (now (lines .entry))) (now (shapes .exit)) (now (index .exit)) (now (ways .exit)) (r .fired) (r .count) (r .full)
+        × (r .full ≡ false → Noted (now (table .entry)) rules (now (shapes .exit)) (now (index .exit)) (now (notes .exit)) (now (starts .exit)) (r .count)) ⌝ }
 {
     let mut fired = [0u8; 256];
-    let mut count = find_rows(lines, shapes, index, parents, makers, headers);
     let mut full = false;
-    if 512 < count {
+    let RowShapes::Count(rows) = find_rows(lines, shapes, index, ways) else {
         full = true;
-        return Found { fired, count, full };
-    }
+        return Found {
+            fired,
+            count: 512,
+            full,
+        };
+    };
+    let mut count = rows;
     let patterns = sheet::pattern_table();
     let mut k: usize = 0;
     starts[0] = 0;
@@ -203,21 +191,10 @@ pub(crate) fn search(
                         full = true;
                         break 'search;
                     }
-                    push(
-                        shapes,
-                        index,
-                        parents,
-                        makers,
-                        headers,
-                        count,
-                        code,
-                        s + 1,
-                        r + 1,
-                        h + 1,
-                    );
+                    push(shapes, index, ways, count, code, s + 1, r + 1, h + 1);
                     count += 1;
                 }
-                note(firings, targets, k, 8 * r + 2 * h, index[code]);
+                note(notes, k, 8 * r + 2 * h, index[code]);
                 k += 1;
                 h += 1;
             }

@@ -7,6 +7,7 @@ ghost use Rattle.patterns.specs.Pattern.{pattern};
 ghost use Rattle.judging.specs.inner.Table.{KindFits, TableFits, rowBytes, ruleIn};
 ghost use Rattle.judging.specs.inner.Codes.{CodeIs, FiresOn, MadeOf, DigitsFit, madeNumber};
 ghost use Rattle.judging.specs.inner.Firing.{ByKind, Place, NextFire};
+use crate::wide;
 use sheet::PatternAnswer;
 
 // The number of the shape with a kind and the pattern of the numbers.
@@ -20,24 +21,12 @@ pub(crate) fn shape_code(kind: u32, numbers: &[u32]) -> usize
     }
 }
 
-fn wide(b: u8) -> usize
-    ensures { λ r. ⌜ (r ≡ b) × (r < 256) ⌝ }
-{
-    b as usize
-}
-
-fn wide_rule(r: u16) -> usize
-    ensures { λ n. ⌜ n ≡ r ⌝ }
-{
-    r as usize
-}
-
 // Byte `i` of rule `r`.
 pub(crate) fn rule_byte(table: &[u8; 16384], r: usize, i: usize) -> usize
     requires { ⌜ (length (now table) ≡ 16384) × (r < 256) × (i < 64) ⌝ }
     ensures { λ b. ⌜ (b ≡ getD (rowBytes (now (table .entry)) r) i 0) × (b < 256) ⌝ }
 {
-    wide(table[64 * r + i])
+    wide::of_u8(table[64 * r + i])
 }
 
 // Whether rule `r` fires on a record of this kind and pattern: it has as many fields as the rule has marks, and each has the digit of its mark's first place.
@@ -81,12 +70,12 @@ pub(crate) fn next_fire(
     requires { ⌜ TableFits (now table) rules × ByKind (now table) rules (now kinds) × Place (now table) rules kind p × DigitsFit digits ⌝ }
     ensures { λ q. ⌜ NextFire (now (table .entry)) rules (p - 64) kind digits q ⌝ }
 {
-    let mut q = wide_rule(kinds[p]);
+    let mut q = wide::of_u16(kinds[p]);
     while q < rules {
         if fires(table, rules, q, kind, digits) {
             return q;
         }
-        q = wide_rule(kinds[65 + q]);
+        q = wide::of_u16(kinds[65 + q]);
     }
     q
 }
@@ -100,7 +89,7 @@ fn made_number(table: &[u8; 16384], rules: usize, r: usize, mark: usize, digits:
     if place == 0 {
         return (rule_byte(table, r, 1) + mark + 1) as u32;
     }
-    wide(digits[place - 1]) as u32
+    wide::of_u8(digits[place - 1]) as u32
 }
 
 // The shape that H line `h` of rule `r` makes of a record of this pattern.

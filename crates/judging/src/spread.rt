@@ -4,27 +4,95 @@
 // the shape that an H line makes: a carried one from the first place of the mark, a fresh one from the first place of each carried mark,
 // or from field 0 where the rule carries nothing. Its code is 8 × rule + 2 × H line + fresh, both counted from 0.
 ghost use mathlib.Core.Path.{_≡_};
+ghost use mathlib.Core.List.{[]};
 ghost use Prim.Native.Nat.{ℕ, _+_, _*_, _≤_, _<_};
 ghost use lib.ListN.{length, getD};
-ghost use Rattle.judging.specs.inner.Table.{tableRules, rowBytes, TableFits};
-ghost use Rattle.judging.specs.inner.Codes.{shapeAt, ShapeFits};
-ghost use Rattle.judging.specs.inner.Firing.{ByKind};
-ghost use Rattle.judging.specs.inner.Nodes.{at, put, Grid, Zeros};
-ghost use Rattle.judging.specs.inner.Links.{Closed, Spreads};
-ghost use Rattle.judging.specs.inner.Noted.{Noted, ShapeNotes, NoteFits, NotesE};
+ghost use Rattle.judging.specs.inner.Table.{tableRules, rowBytes};
+ghost use Rattle.judging.specs.inner.Nodes.{Grid, Zeros, RaiseGrid, fromOf, linkOf};
+ghost use Rattle.judging.specs.inner.Links.{Spreads, turningNumber, hasTurn};
+ghost use Rattle.judging.specs.inner.Noted.{NoteFits, NoteLink, NotesLink};
 ghost use Rattle.judging.specs.inner.Order.{Ordered};
-ghost use Rattle.judging.specs.inner.Passes.{Live, Done, Swept, Rests, Just, Upto, FreshE, Best, LineBytes, HeadE, ShapeE, EachE, Onward, Inside, Walked, Last};
+ghost use Rattle.judging.specs.inner.Passes.{isCalm, isOver, nodeOf, Live, Done, Swept, Rests, Just, Upto, FreshLink, Best, ShapeLink, EachLink, Inside, Walked};
+ghost use Rattle.judging.specs.inner.Ground.{Ground};
 use crate::fresh::first_waiting;
+use crate::grid::Numbers;
+use crate::grid::Raises;
 use crate::grid::field;
+use crate::grid::from_of;
 use crate::grid::number;
 use crate::grid::put_field;
+use crate::grid::put_raise;
+use crate::notes::Note;
 use crate::notes::note_shape;
 use crate::order::order_of;
 use crate::shape::rule_byte;
+use crate::wide;
 
-// Follows one link, from field p of shape s to field j of shape t, where there are n nodes. `last` is 0 where nothing was raised, v + 1
-// where node v was raised last, v + 4097 where v was raised above n: then nothing more is done. `waiting` holds 1 for each shape whose
-// links are to be followed.
+// What following links raised last: nothing, a node, or a node that was raised above the number of nodes; then nothing more is followed.
+// (A node is a u16 here: beside a usize the case would stand in eight bytes, seven of them copied for nothing.)
+enum Raised {
+    Nothing,
+    Node(u16),
+    Over(u16),
+}
+
+// Where the fresh links of a rule come from: a place of its B line, 0 where the rule carries nothing, or nowhere.
+enum Source {
+    Place(usize),
+    Nowhere,
+}
+
+// What the generations come to: they rest, or they rise for ever in a loop through a node.
+pub(crate) enum Turning {
+    Nowhere,
+    At(usize),
+}
+
+// Whether a node was raised above the number of nodes.
+fn is_over(last: Raised) -> bool
+    ensures { λ b. ⌜ b ≡ isOver last ⌝ }
+{
+    match last {
+        Raised::Nothing => false,
+        Raised::Node(_) => false,
+        Raised::Over(_) => true,
+    }
+}
+
+// Whether nothing was raised.
+fn is_calm(last: Raised) -> bool
+    ensures { λ b. ⌜ b ≡ isCalm last ⌝ }
+{
+    match last {
+        Raised::Nothing => true,
+        Raised::Node(_) => false,
+        Raised::Over(_) => false,
+    }
+}
+
+// Whether there is a loop.
+fn turns(turning: Turning) -> bool
+    ensures { λ b. ⌜ b ≡ hasTurn turning ⌝ }
+{
+    match turning {
+        Turning::Nowhere => false,
+        Turning::At(_) => true,
+    }
+}
+
+// The node that was raised last; 0 where none was.
+fn node_of(last: Raised) -> usize
+    ensures { λ r. ⌜ r ≡ nodeOf last ⌝ }
+{
+    match last {
+        Raised::Nothing => 0,
+        Raised::Node(v) => wide::of_u16(v),
+        Raised::Over(v) => wide::of_u16(v),
+    }
+}
+
+// Follows one link, from field p of shape s to field j of shape t, where there are n nodes. `waiting` holds 1 for each shape whose links
+// are to be followed.
 fn follow(
     n: usize,
     s: usize,
@@ -32,16 +100,15 @@ fn follow(
     t: usize,
     j: usize,
     link: u16,
-    generations: &mut [[u16; 7]; 512],
-    from: &mut [[u16; 7]; 512],
-    links: &mut [[u16; 7]; 512],
+    generations: &mut Numbers,
+    raises: &mut Raises,
     waiting: &mut [u8; 512],
-    last: usize,
-) -> usize
-    requires { ⌜ Live n (now generations) (now from) (now links) (now waiting) last × (p < 7) × (j < 7) × (7 * s + 7 ≤ n) × (7 * t + 7 ≤ n) ⌝ }
-    ensures { λ r. ⌜ Done n (Just (7 * s + p) (7 * t + j) link) (now (generations .entry)) (now (from .entry)) (now (links .entry)) (now (waiting .entry)) last (now (generations .exit)) (now (from .exit)) (now (links .exit)) (now (waiting .exit)) r ⌝ }
+    last: Raised,
+) -> Raised
+    requires { ⌜ Live n (now generations) (now raises) (now waiting) last × (p < 7) × (j < 7) × (7 * s + 7 ≤ n) × (7 * t + 7 ≤ n) ⌝ }
+    ensures { λ r. ⌜ Done n (Just (7 * s + p) (7 * t + j) link) (now (generations .entry)) (now (raises .entry)) (now (waiting .entry)) last (now (generations .exit)) (now (raises .exit)) (now (waiting .exit)) r ⌝ }
 {
-    if 4096 < last {
+    if is_over(last) {
         return last;
     }
     let x = field(generations, s, p) + link % 2;
@@ -49,22 +116,21 @@ fn follow(
         return last;
     }
     put_field(generations, t, j, x);
-    put_field(from, t, j, (7 * s + p) as u16);
-    put_field(links, t, j, link);
+    put_raise(raises, t, j, (7 * s + p) as u16, link);
     waiting[t] = 1;
-    let v = 7 * t + j;
+    let v = (7 * t + j) as u16;
     if n < x as usize {
-        return v + 4097;
+        return Raised::Over(v);
     }
-    v + 1
+    Raised::Node(v)
 }
 
-// The source of rule `r` with the largest generation in shape `s`, the first such; 7 where the rule has none.
-fn best_source(table: &[u8; 16384], r: usize, s: usize, generations: &[[u16; 7]; 512]) -> usize
+// The source of rule `r` with the largest generation in shape `s`, the first such.
+fn best_source(table: &[u8; 16384], r: usize, s: usize, generations: &Numbers) -> Source
     requires { ⌜ (length (now table) ≡ 16384) × (r < 256) × (s < 512) × Grid (now generations) ⌝ }
     ensures { λ p. ⌜ Best (rowBytes (now (table .entry)) r) (now (generations .entry)) s p ⌝ }
 {
-    let mut best: usize = 7;
+    let mut best = Source::Nowhere;
     let mut most: u16 = 0;
     let mut p: usize = 7;
     while 0 < p {
@@ -72,7 +138,7 @@ fn best_source(table: &[u8; 16384], r: usize, s: usize, generations: &[[u16; 7];
         if rule_byte(table, r, 21 + p) == 1 {
             let x = field(generations, s, p);
             if most <= x {
-                best = p;
+                best = Source::Place(p);
                 most = x;
             }
         }
@@ -90,51 +156,38 @@ fn follow_fresh(
     t: usize,
     j: usize,
     link: u16,
-    generations: &mut [[u16; 7]; 512],
-    from: &mut [[u16; 7]; 512],
-    links: &mut [[u16; 7]; 512],
+    generations: &mut Numbers,
+    raises: &mut Raises,
     waiting: &mut [u8; 512],
-    before: usize,
-) -> usize
-    requires { ⌜ (length (now table) ≡ 16384) × (r < 256) × Live n (now generations) (now from) (now links) (now waiting) before × (j < 7) × (7 * s + 7 ≤ n) × (7 * t + 7 ≤ n) ⌝ }
-    ensures { λ q. ⌜ Done n (Upto 7 (FreshE (rowBytes (now (table .entry)) r) s (7 * t + j) link)) (now (generations .entry)) (now (from .entry)) (now (links .entry)) (now (waiting .entry)) before (now (generations .exit)) (now (from .exit)) (now (links .exit)) (now (waiting .exit)) q ⌝ }
+    before: Raised,
+) -> Raised
+    requires { ⌜ (length (now table) ≡ 16384) × (r < 256) × Live n (now generations) (now raises) (now waiting) before × (j < 7) × (7 * s + 7 ≤ n) × (7 * t + 7 ≤ n) ⌝ }
+    ensures { λ q. ⌜ Done n (Upto 7 (FreshLink (rowBytes (now (table .entry)) r) s (7 * t + j) link)) (now (generations .entry)) (now (raises .entry)) (now (waiting .entry)) before (now (generations .exit)) (now (raises .exit)) (now (waiting .exit)) q ⌝ }
 {
-    let p = best_source(table, r, s, generations);
-    if p == 7 {
-        return before;
+    match best_source(table, r, s, generations) {
+        Source::Nowhere => before,
+        Source::Place(p) => follow(n, s, p, t, j, link, generations, raises, waiting, before),
     }
-    follow(
-        n,
-        s,
-        p,
-        t,
-        j,
-        link,
-        generations,
-        from,
-        links,
-        waiting,
-        before,
-    )
 }
 
-// Follows the links of H line `h` of rule `r` from shape `s` to the shape `t` that it makes.
-fn follow_head(
+// Follows the links of a note on shape `s`: those of its rule and H line, to the shape that they make.
+fn follow_note(
     table: &[u8; 16384],
     n: usize,
     s: usize,
-    r: usize,
-    h: usize,
-    t: usize,
-    generations: &mut [[u16; 7]; 512],
-    from: &mut [[u16; 7]; 512],
-    links: &mut [[u16; 7]; 512],
+    note: Note,
+    generations: &mut Numbers,
+    raises: &mut Raises,
     waiting: &mut [u8; 512],
-    before: usize,
-) -> usize
-    requires { ⌜ (length (now table) ≡ 16384) × (r < 256) × LineBytes (rowBytes (now table) r) h × Live n (now generations) (now from) (now links) (now waiting) before × (7 * s + 7 ≤ n) × (7 * t + 7 ≤ n) ⌝ }
-    ensures { λ q. ⌜ Done n (HeadE (rowBytes (now (table .entry)) r) r h s t) (now (generations .entry)) (now (from .entry)) (now (links .entry)) (now (waiting .entry)) before (now (generations .exit)) (now (from .exit)) (now (links .exit)) (now (waiting .exit)) q ⌝ }
+    before: Raised,
+) -> Raised
+    requires { ⌜ (length (now table) ≡ 16384) × NoteFits (now table) n note × Live n (now generations) (now raises) (now waiting) before × (7 * s + 7 ≤ n) ⌝ }
+    ensures { λ q. ⌜ Done n (NoteLink (now (table .entry)) s note) (now (generations .entry)) (now (raises .entry)) (now (waiting .entry)) before (now (generations .exit)) (now (raises .exit)) (now (waiting .exit)) q ⌝ }
 {
+    let firing = note[0] as usize;
+    let r = firing / 8;
+    let h = firing / 2 % 4;
+    let t = note[1] as usize;
     let width = rule_byte(table, r, 33 + 8 * h);
     let link = (8 * r + 2 * h) as u16;
     let mut last = before;
@@ -152,8 +205,7 @@ fn follow_head(
                 j + 1,
                 link + 1,
                 generations,
-                from,
-                links,
+                raises,
                 waiting,
                 last,
             );
@@ -166,8 +218,7 @@ fn follow_head(
                 j + 1,
                 link,
                 generations,
-                from,
-                links,
+                raises,
                 waiting,
                 last,
             );
@@ -177,108 +228,79 @@ fn follow_head(
     last
 }
 
-// Follows the links of the notes from `first` on and before `end`, those on shape `s`.
+// Follows the links of notes on shape `s`.
 fn follow_noted(
     table: &[u8; 16384],
     n: usize,
     s: usize,
-    firings: &[u16],
-    targets: &[u16],
-    first: usize,
-    end: usize,
-    generations: &mut [[u16; 7]; 512],
-    from: &mut [[u16; 7]; 512],
-    links: &mut [[u16; 7]; 512],
+    notes: &[Note],
+    generations: &mut Numbers,
+    raises: &mut Raises,
     waiting: &mut [u8; 512],
-    before: usize,
-) -> usize
-    requires { ⌜ (length (now table) ≡ 16384) × (length (now targets) ≡ length (now firings)) × (first ≤ end) × (end ≤ length (now firings)) × ((k : ℕ) → first ≤ k → k < end → NoteFits (now table) (now firings) (now targets) n k) × Live n (now generations) (now from) (now links) (now waiting) before × (7 * s + 7 ≤ n) ⌝ }
-    ensures { λ r. ⌜ Done n (NotesE (now (table .entry)) (now (firings .entry)) (now (targets .entry)) s first end) (now (generations .entry)) (now (from .entry)) (now (links .entry)) (now (waiting .entry)) before (now (generations .exit)) (now (from .exit)) (now (links .exit)) (now (waiting .exit)) r ⌝ }
+    before: Raised,
+) -> Raised
+    requires { ⌜ (length (now table) ≡ 16384) × ((k : ℕ) → k < length (now notes) → NoteFits (now table) n (getD (now notes) k [])) × Live n (now generations) (now raises) (now waiting) before × (7 * s + 7 ≤ n) ⌝ }
+    ensures { λ r. ⌜ Done n (NotesLink (now (table .entry)) (now (notes .entry)) s) (now (generations .entry)) (now (raises .entry)) (now (waiting .entry)) before (now (generations .exit)) (now (raises .exit)) (now (waiting .exit)) r ⌝ }
 {
     let mut last = before;
-    let mut k = first;
-    while k < end {
-        let link = firings[k] as usize;
-        last = follow_head(
-            table,
-            n,
-            s,
-            link / 8,
-            link / 2 % 4,
-            targets[k] as usize,
-            generations,
-            from,
-            links,
-            waiting,
-            last,
-        );
+    let mut k: usize = 0;
+    while k < notes.len() {
+        last = follow_note(table, n, s, notes[k], generations, raises, waiting, last);
         k += 1;
     }
     last
 }
 
-// Follows all links from shape `s`: by the notes of the search, where it had room for them, and otherwise by notes that are made anew.
+// Follows all links from the shape at place `s`: by the notes of the search, where it had room for them, and otherwise by notes that are made anew.
 fn follow_shape(
     table: &[u8; 16384],
     rules: usize,
     kinds: &[u16; 321],
-    shape: usize,
+    shapes: &[u32; 512],
     index: &[u16; 17792],
-    firings: &[u16],
-    targets: &[u16],
+    notes: &[Note],
     starts: &[u32; 513],
-    n: usize,
+    count: usize,
     s: usize,
-    generations: &mut [[u16; 7]; 512],
-    from: &mut [[u16; 7]; 512],
-    links: &mut [[u16; 7]; 512],
+    generations: &mut Numbers,
+    raises: &mut Raises,
     waiting: &mut [u8; 512],
-    before: usize,
-) -> usize
-    requires { ⌜ TableFits (now table) rules × (length (now index) ≡ 17792) × (shape < 17792) × ShapeFits (shapeAt shape) × Onward (now table) rules (now index) n shape × Live n (now generations) (now from) (now links) (now waiting) before × (7 * s + 7 ≤ n) × ByKind (now table) rules (now kinds)
-        × (length (now firings) ≤ 8192) × (length (now targets) ≡ length (now firings)) × (length (now starts) ≡ 513)
-        × (getD (now starts) (s + 1) 0 ≤ length (now firings) → ShapeNotes (now table) rules (now index) (now firings) (now targets) shape (getD (now starts) s 0) (getD (now starts) (s + 1) 0)) ⌝ }
-    ensures { λ r. ⌜ Done n (ShapeE (now (table .entry)) rules (now (index .entry)) shape s) (now (generations .entry)) (now (from .entry)) (now (links .entry)) (now (waiting .entry)) before (now (generations .exit)) (now (from .exit)) (now (links .exit)) (now (waiting .exit)) r ⌝ }
+    before: Raised,
+) -> Raised
+    requires { ⌜ Ground (now table) rules (now kinds) (now shapes) (now index) (now notes) (now starts) count × (s < count) × Live (7 * count) (now generations) (now raises) (now waiting) before ⌝ }
+    ensures { λ r. ⌜ Done (7 * count) (ShapeLink (now (table .entry)) rules (now (index .entry)) (getD (now (shapes .entry)) s 0) s) (now (generations .entry)) (now (raises .entry)) (now (waiting .entry)) before (now (generations .exit)) (now (raises .exit)) (now (waiting .exit)) r ⌝ }
 {
-    let room = firings.len() as u32;
-    if starts[s + 1] <= room {
+    let n = 7 * count;
+    let first = wide::of_u32(starts[s]);
+    let end = wide::of_u32(starts[s + 1]);
+    if end <= notes.len() {
         return follow_noted(
             table,
             n,
             s,
-            firings,
-            targets,
-            starts[s] as usize,
-            starts[s + 1] as usize,
+            &notes[first..end],
             generations,
-            from,
-            links,
+            raises,
             waiting,
             before,
         );
     }
-    let mut firings_here = [0u16; 1024];
-    let mut targets_here = [0u16; 1024];
-    let end = note_shape(
+    let mut here = [[0u16; 2]; 1024];
+    let noted = note_shape(
         table,
         rules,
         kinds,
-        shape,
+        wide::of_u32(shapes[s]),
         index,
-        &mut firings_here,
-        &mut targets_here,
+        &mut here,
     );
     follow_noted(
         table,
         n,
         s,
-        &firings_here,
-        &targets_here,
-        0,
-        end,
+        &here[..noted],
         generations,
-        from,
-        links,
+        raises,
         waiting,
         before,
     )
@@ -291,21 +313,20 @@ fn sweep(
     kinds: &[u16; 321],
     shapes: &[u32; 512],
     index: &[u16; 17792],
-    firings: &[u16],
-    targets: &[u16],
+    notes: &[Note],
     starts: &[u32; 513],
     order: &[u16; 512],
     count: usize,
-    generations: &mut [[u16; 7]; 512],
-    from: &mut [[u16; 7]; 512],
-    links: &mut [[u16; 7]; 512],
+    generations: &mut Numbers,
+    raises: &mut Raises,
     waiting: &mut [u8; 512],
-) -> usize
-    requires { ⌜ TableFits (now table) rules × Closed (tableRules (now table) rules) (now shapes) (now index) count × Live (7 * count) (now generations) (now from) (now links) (now waiting) 0 × ((u v link : ℕ) → EachE (now table) rules (now shapes) (now index) count u v link → Rests (now generations) (now waiting) u v link) × ByKind (now table) rules (now kinds) × Noted (now table) rules (now shapes) (now index) (now firings) (now targets) (now starts) count × Ordered (now order) count ⌝ }
-    ensures { λ r. ⌜ Swept (7 * count) (EachE (now (table .entry)) rules (now (shapes .entry)) (now (index .entry)) count) count (now (generations .entry)) (now (from .entry)) (now (links .entry)) (now (generations .exit)) (now (from .exit)) (now (links .exit)) (now (waiting .exit)) r ⌝ }
+) -> Raised
+    requires { ⌜ Ground (now table) rules (now kinds) (now shapes) (now index) (now notes) (now starts) count × Ordered (now order) count
+        × Live (7 * count) (now generations) (now raises) (now waiting) Raised.Nothing
+        × ((u v link : ℕ) → EachLink (now table) rules (now shapes) (now index) count u v link → Rests (now generations) (now waiting) u v link) ⌝ }
+    ensures { λ r. ⌜ Swept (7 * count) (EachLink (now (table .entry)) rules (now (shapes .entry)) (now (index .entry)) count) count (now (generations .entry)) (now (raises .entry)) (now (generations .exit)) (now (raises .exit)) (now (waiting .exit)) r ⌝ }
 {
-    let n = 7 * count;
-    let mut last: usize = 0;
+    let mut last = Raised::Nothing;
     let mut i: usize = 0;
     while i < count {
         let s = order[i] as usize;
@@ -315,16 +336,14 @@ fn sweep(
                 table,
                 rules,
                 kinds,
-                shapes[s] as usize,
+                shapes,
                 index,
-                firings,
-                targets,
+                notes,
                 starts,
-                n,
+                count,
                 s,
                 generations,
-                from,
-                links,
+                raises,
                 waiting,
                 last,
             );
@@ -334,53 +353,42 @@ fn sweep(
     last
 }
 
-// The node that a sweep's answer names.
-fn raised(last: usize) -> usize
-    requires { ⌜ 0 < last ⌝ }
-    ensures { λ r. ⌜ Last last r ⌝ }
-{
-    if 4096 < last { last - 4097 } else { last - 1 }
-}
-
-// Goes back n links from node x. Answers 0 where a node of generation 0 is met, and otherwise one more than the node it comes to.
-fn back(n: usize, generations: &[[u16; 7]; 512], from: &[[u16; 7]; 512], x: usize) -> usize
-    requires { ⌜ Inside n (now generations) (now from) x ⌝ }
-    ensures { λ r. ⌜ Walked n (now (generations .entry)) (now (from .entry)) x r ⌝ }
+// Goes back n links from node x. Answers nowhere where a node of generation 0 is met, and otherwise the node that it comes to.
+fn back(n: usize, generations: &Numbers, raises: &Raises, x: usize) -> Turning
+    requires { ⌜ Inside n (now generations) (fromOf (now raises)) x ⌝ }
+    ensures { λ r. ⌜ Walked n (now (generations .entry)) (fromOf (now (raises .entry))) x (turningNumber r) ⌝ }
 {
     let mut y = x;
     let mut k: usize = 0;
     while k < n {
         if number(generations, y) == 0 {
-            return 0;
+            return Turning::Nowhere;
         }
-        y = number(from, y) as usize;
+        y = from_of(raises, y) as usize;
         k += 1;
     }
-    y + 1
+    Turning::At(y)
 }
 
-// Raises the generations, all 0 at first, until all is settled or they rise in a loop; each node keeps the link that raised it last. Answers 0 where all is settled, and otherwise one more than a node of a loop.
+// Raises the generations, all 0 at first, until all is settled or they rise in a loop; each node keeps the link that raised it last. Answers a node of the loop, if there is one.
 pub(crate) fn spread(
     table: &[u8; 16384],
     rules: usize,
     kinds: &[u16; 321],
     shapes: &[u32; 512],
     index: &[u16; 17792],
-    firings: &[u16],
-    targets: &[u16],
+    notes: &[Note],
     starts: &[u32; 513],
     count: usize,
-    generations: &mut [[u16; 7]; 512],
-    from: &mut [[u16; 7]; 512],
-    links: &mut [[u16; 7]; 512],
-) -> usize
-    requires { ⌜ TableFits (now table) rules × Closed (tableRules (now table) rules) (now shapes) (now index) count × Zeros (now generations) × Grid (now from) × Grid (now links) × ByKind (now table) rules (now kinds) × Noted (now table) rules (now shapes) (now index) (now firings) (now targets) (now starts) count ⌝ }
-    ensures { λ r. ⌜ Spreads (tableRules (now (table .entry)) rules) (now (shapes .entry)) count (now (generations .exit)) (now (from .exit)) (now (links .exit)) r ⌝ }
+    generations: &mut Numbers,
+    raises: &mut Raises,
+) -> Turning
+    requires { ⌜ Ground (now table) rules (now kinds) (now shapes) (now index) (now notes) (now starts) count × Zeros (now generations) × RaiseGrid (now raises) ⌝ }
+    ensures { λ r. ⌜ Spreads (tableRules (now (table .entry)) rules) (now (shapes .entry)) count (now (generations .exit)) (fromOf (now (raises .exit))) (linkOf (now (raises .exit))) (turningNumber r) ⌝ }
 {
     let n = 7 * count;
     let mut waiting = first_waiting(table, rules, shapes, count);
-    let order = order_of(&waiting, targets, starts, count);
-    let mut turning: usize = 0;
+    let order = order_of(&waiting, notes, starts, count);
     loop {
         let last = sweep(
             table,
@@ -388,23 +396,20 @@ pub(crate) fn spread(
             kinds,
             shapes,
             index,
-            firings,
-            targets,
+            notes,
             starts,
             &order,
             count,
             generations,
-            from,
-            links,
+            raises,
             &mut waiting,
         );
-        if last == 0 {
-            break;
+        if is_calm(last) {
+            return Turning::Nowhere;
         }
-        turning = back(n, generations, from, raised(last));
-        if turning != 0 {
-            break;
+        let turning = back(n, generations, raises, node_of(last));
+        if turns(turning) {
+            return turning;
         }
     }
-    turning
 }

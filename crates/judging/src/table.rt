@@ -13,12 +13,9 @@ ghost use Prim.Native.Nat.{_+_, _*_, _≤_, _<_};
 ghost use lib.ListN.{length, getD};
 ghost use Rattle.judging.specs.inner.Table.{SheetHeld, linesIn, rulesIn, tableRules, MarksFit, HeadFits, RuleFits, TableFits};
 ghost use Rattle.judging.specs.inner.Bytes.{marksAt, headAt, headsAt, ruleAt, LineIn, LinesIn, headCount, lineByte, Blank, Part, markByte, placeByte, PlacesFit, sourcesWith, HeadsPut, RowPut};
-
-pub(crate) fn wide(x: u32) -> usize
-    ensures { λ r. ⌜ r ≡ x ⌝ }
-{
-    x as usize
-}
+use crate::wide;
+use sheet::LETTER_B;
+use sheet::LETTER_H;
 
 // How many H lines stand at line `n` and after it, up to the first line that is none.
 fn heads_at(lines: &[u32], n: usize) -> usize
@@ -27,7 +24,7 @@ fn heads_at(lines: &[u32], n: usize) -> usize
 {
     let mut i = n;
     while 8 * i < lines.len() {
-        if lines[8 * i] != 72 {
+        if lines[8 * i] != LETTER_H {
             return i - n;
         }
         i += 1;
@@ -70,7 +67,7 @@ fn put_places(table: &mut [u8; 16384], at: usize, lines: &[u32], n: usize, count
 {
     let mut i = count;
     while 0 < i {
-        let mark = wide(lines[8 * n + 1 + i]);
+        let mark = wide::of_u32(lines[8 * n + 1 + i]);
         table[at + 8 + mark] = i as u8;
         i -= 1;
     }
@@ -96,7 +93,7 @@ fn put_sources(table: &mut [u8; 16384], at: usize, lines: &[u32], n: usize, coun
 {
     let mut i: usize = 0;
     while i < count {
-        let mark = wide(lines[8 * n + 2 + i]);
+        let mark = wide::of_u32(lines[8 * n + 2 + i]);
         put_source(table, at, mark);
         i += 1;
     }
@@ -144,7 +141,7 @@ pub(crate) fn rules_of(lines: &[u32], table: &mut [u8; 16384]) -> usize
     let mut count: usize = 0;
     let mut n: usize = 0;
     while 8 * n < lines.len() {
-        if lines[8 * n] == 66 {
+        if lines[8 * n] == LETTER_B {
             let heads = heads_at(lines, n + 1);
             put_rule(table, count, lines, n, heads);
             count += 1;

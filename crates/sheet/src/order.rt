@@ -165,14 +165,11 @@ fn admit_kind(seen: Seen, widths: &mut [u8; 65], numbers: &[u32; 8]) -> Admitted
     Admitted::Yes(0)
 }
 
-// What a B or H line is answered: `wrong` is its refusal for its place or its kind and 0 where it gets neither, `mark` the largest
-// mark of its rule and 0 where its marks are wrong, `full` whether there is no room for it.
-fn answer_for(wrong: u32, mark: u32, full: bool) -> Admitted
-    ensures { λ r. ⌜ r ≡ answerFor wrong mark full ⌝ }
+// What a B or H line is answered that is in its place and of its kind: `mark` is the largest mark of its rule and 0 where its marks are
+// wrong, `full` whether there is no room for it.
+fn answer_for(mark: u32, full: bool) -> Admitted
+    ensures { λ r. ⌜ r ≡ answerFor 0 mark full ⌝ }
 {
-    if wrong != 0 {
-        return Admitted::No(wrong);
-    }
     if mark == 0 {
         return Admitted::No(5);
     }
@@ -187,8 +184,10 @@ fn admit_body(seen: Seen, widths: &[u8; 65], numbers: &[u32; 8], fields: usize) 
     ensures { λ r. ⌜ Admits seen (now (widths .entry)) (Form.Body fields) (now (numbers .entry)) r (now (widths .entry)) ⌝ }
 {
     let wrong = placed(seen.letter, widths, LETTER_B, numbers[1], fields);
-    let mark = marks(numbers, fields, 0);
-    answer_for(wrong, mark, seen.rules >= 256)
+    if wrong != 0 {
+        return Admitted::No(wrong);
+    }
+    answer_for(marks(numbers, fields, 0), seen.rules >= 256)
 }
 
 fn admit_head(seen: Seen, widths: &[u8; 65], numbers: &[u32; 8], fields: usize) -> Admitted
@@ -196,8 +195,10 @@ fn admit_head(seen: Seen, widths: &[u8; 65], numbers: &[u32; 8], fields: usize) 
     ensures { λ r. ⌜ Admits seen (now (widths .entry)) (Form.Head fields) (now (numbers .entry)) r (now (widths .entry)) ⌝ }
 {
     let wrong = placed(seen.letter, widths, LETTER_H, numbers[1], fields);
-    let mark = marks(numbers, fields, seen.mark);
-    answer_for(wrong, mark, seen.heads >= 4)
+    if wrong != 0 {
+        return Admitted::No(wrong);
+    }
+    answer_for(marks(numbers, fields, seen.mark), seen.heads >= 4)
 }
 
 fn admit_row(seen: Seen, widths: &[u8; 65], numbers: &[u32; 8], fields: usize) -> Admitted

@@ -1,5 +1,6 @@
 -- `judge_few_lines` meets its contract. Assumes nothing.
-use mathlib.Core.Path.{refl, sym, subst}
+use mathlib.Core.Path.{sym, subst}
+use mathlib.Core.List.{List, [], _∷_}
 use native.Mathlib.Omega.{arith}
 use Prim.Native.Nat.{ℕ, _≤_}
 use borrow.Author.Needs.{needs}
@@ -10,20 +11,17 @@ use Rattle.judging.proofs.judge_few_lines.Tie as tie
 slice-aggregate-judge-rules : tie.Need-slice-aggregate-judge-rules
 slice-aggregate-judge-rules c = search needs
 
-slice-aggregate-judge-rules-2 : tie.Need-slice-aggregate-judge-rules-2
-slice-aggregate-judge-rules-2 c = search needs
-
 judge-rules-requires : tie.Need-judge-rules-requires
 judge-rules-requires c κs =
-    let start = c .before .before .before .before .before in
-    (start .pre .0, start .pre .1, start .pre .2, start .pre .3, subst (λ (v : ℕ). v ≤ 8192) (sym (length-replicate {A = ℕ} 2048 0)) (omega arith), refl)
+    let start = c .before .before .before .before in
+    (start .pre .0, start .pre .1, start .pre .2, start .pre .3, subst (λ (v : ℕ). v ≤ 8192) (sym (length-replicate {A = List ℕ} 2048 (0 ∷ 0 ∷ []))) (omega arith))
 
 same-length : tie.Need-same-length
 same-length c = search needs
 
 returns : tie.Need-returns
-returns c = c .before .before .before .before .judge-rules .ensures
+returns c = c .before .before .before .judge-rules .ensures
 
 pub judge-few-lines-spec : {M : Type 1} → statement M
 judge-few-lines-spec =
-    tie.close (tie.spec slice-aggregate-judge-rules slice-aggregate-judge-rules-2 judge-rules-requires same-length returns)
+    tie.close (tie.spec slice-aggregate-judge-rules judge-rules-requires same-length returns)

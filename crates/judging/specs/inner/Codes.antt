@@ -1,7 +1,7 @@
 -- Shapes as numbers. Assumes nothing.
 use mathlib.Core.Path.{_≡_}
 use mathlib.Core.Bool.{Bool, true, false}
-use mathlib.Core.List.{List, [], _∷_, map}
+use mathlib.Core.List.{List, [], map}
 use Prim.Native.Nat.{ℕ, zero, suc, _+_, _-_, _*_, _/_, _%_, _≤_, _<_}
 use native.Mathlib.Decide.{ℕ-discrete}
 use lib.ListN.{length, getD, take}
@@ -10,8 +10,8 @@ use Rattle.patterns.specs.Outcome.{padded}
 use mathlib.Core.Option.{some}
 use Rattle.chase.specs.Rules.{Head, Rule, nth}
 use Rattle.chase.specs.Simplification.{Applies}
-use Rattle.chase.specs.Making.{makes}
 use Rattle.chase.specs.Shape.{Shape}
+pub use Rattle.chase.specs.inner.Digits.{shapeFrom}
 use Rattle.judging.specs.inner.Table.{KindFits, firstPlace}
 
 -- The shape that a number stands for.
@@ -28,15 +28,6 @@ pub record ShapeFits (s : Shape) : Type 0 where
   pub some : 1 ≤ length (s .pattern)
   pub few : length (s .pattern) ≤ 6
   pub own : pattern ℕ-discrete (s .pattern) ≡ s .pattern
-
--- A digit that no field of so many has: for a fresh mark.
-abbrev pub newDigit : ℕ → ℕ → List ℕ → ℕ
-newDigit width m carried = suc (width + m)
-
--- The shape that an H line makes of a pattern's digits.
-abbrev pub shapeFrom : Rule → Shape → Head → Shape
-shapeFrom r s h =
-    record { kind = h .kind; pattern = pattern ℕ-discrete (makes (newDigit (length (s .pattern))) r (s .pattern) (h .marks)) }
 
 -- The number of the shape with a kind and a pattern.
 pub record CodeIs (kind : ℕ) (pattern-is : List ℕ) (code : ℕ) : Type 0 where

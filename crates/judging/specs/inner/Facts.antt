@@ -7,13 +7,13 @@ use Rattle.chase.specs.Lists.{All}
 use Rattle.chase.specs.Rules.{Rule, rulesOf}
 use Rattle.chase.specs.Run.{rowsOf}
 use Rattle.judging.specs.inner.Table.{RuleFits}
-use Rattle.judging.specs.inner.Found.{Kept, Whole, FiredMarks}
+use Rattle.judging.specs.inner.Found.{Kept, Whole, FiredRules}
 use Rattle.judging.specs.inner.Links.{Spreads}
 
-pub record Facts (lines : List Line) (codes index parents makers headers fired : List ℕ) (count : ℕ) (generations from link : List (List ℕ)) (turning : ℕ)
+pub record Facts (lines : List Line) (codes index : List ℕ) (ways : List (List ℕ)) (fired : List ℕ) (count : ℕ) (generations from link : List (List ℕ)) (turning : ℕ)
     : Type 0 where
   pub fit : All RuleFits (rulesOf lines)
-  pub kept : Kept (rulesOf lines) (rowsOf lines) codes index parents makers headers count
+  pub kept : Kept (rulesOf lines) (rowsOf lines) codes index ways count
   pub whole : Whole (rulesOf lines) (rowsOf lines) codes count
-  pub marks : FiredMarks (rulesOf lines) codes fired count
+  pub fired-rules : FiredRules (rulesOf lines) codes fired count
   pub spreads : Spreads (rulesOf lines) codes count generations from link turning

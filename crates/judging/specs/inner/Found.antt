@@ -25,21 +25,31 @@ pub record Has (codes : List ℕ) (n : ℕ) (s : Shape) : Type 0 where
   pub below : place < n
   pub there : shapeNo codes place ≡ s
 
--- How the shape at place k was reached: a row has it, or a rule makes it of a shape that was found before.
-pub data Via (rules : List Rule) (rows : List Record) (codes : List ℕ) (k parents makers headers : ℕ) : Type 0 where
-  viaRow : (x : Record) → parents ≡ 0 → nth rows makers ≡ some x → shapeNo codes k ≡ shapeOf x → Via rules rows codes k parents makers headers
-  viaRule : (s : ℕ) (r : Rule) (h : Head) → parents ≡ suc s → s < k → nth rules makers ≡ some r → nth (r .heads) headers ≡ some h
-      → Applies r (shapeNo codes s) → shapeNo codes k ≡ shapeFrom r (shapeNo codes s) h → Via rules rows codes k parents makers headers
+-- How the found shapes were reached, a row of three numbers for each: one more than the place of the shape that it was made of, 0 where a row has it; the number of the rule that made it, or of the row; the number of the rule's H line, 0 where a row has it.
+abbrev pub parentAt : List (List ℕ) → ℕ → ℕ
+parentAt ways k = getD (getD ways k []) 0 0
+
+abbrev pub makerAt : List (List ℕ) → ℕ → ℕ
+makerAt ways k = getD (getD ways k []) 1 0
+
+abbrev pub hLineAt : List (List ℕ) → ℕ → ℕ
+hLineAt ways k = getD (getD ways k []) 2 0
+
+-- How the shape at place k was reached, by its row: a row of the sheet has it, or a rule makes it of a shape that was found before.
+pub data Via (rules : List Rule) (rows : List Record) (codes : List ℕ) (k : ℕ) (way : List ℕ) : Type 0 where
+  viaRow : (x : Record) → getD way 0 0 ≡ 0 → nth rows (getD way 1 0) ≡ some x → shapeNo codes k ≡ shapeOf x → Via rules rows codes k way
+  viaRule : (s : ℕ) (r : Rule) (h : Head) → getD way 0 0 ≡ suc s → s < k → nth rules (getD way 1 0) ≡ some r → nth (r .heads) (getD way 2 0) ≡ some h
+      → Applies r (shapeNo codes s) → shapeNo codes k ≡ shapeFrom r (shapeNo codes s) h → Via rules rows codes k way
 
 -- What holds of the first n shapes at any time.
-pub record Kept (rules : List Rule) (rows : List Record) (codes index parents makers headers : List ℕ) (n : ℕ) : Type 0 where
-  pub sizes : (length codes ≡ 512) × (length index ≡ 17792) × (length parents ≡ 512) × (length makers ≡ 512) × (length headers ≡ 512)
+pub record Kept (rules : List Rule) (rows : List Record) (codes index : List ℕ) (ways : List (List ℕ)) (n : ℕ) : Type 0 where
+  pub sizes : (length codes ≡ 512) × (length index ≡ 17792) × (length ways ≡ 512)
   pub few : n ≤ 512
   pub small : (k : ℕ) → k < n → getD codes k 0 < 17792
   pub fits : (k : ℕ) → k < n → ShapeFits (shapeNo codes k)
   pub placed : (k : ℕ) → k < n → getD index (getD codes k 0) 0 ≡ suc k
   pub marked : (code k : ℕ) → getD index code 0 ≡ suc k → (k < n) × (getD codes k 0 ≡ code)
-  pub via : (k : ℕ) → k < n → Via rules rows codes k (getD parents k 0) (getD makers k 0) (getD headers k 0)
+  pub via : (k : ℕ) → k < n → Via rules rows codes k (getD ways k [])
 
 -- No rule leads out of the first n shapes.
 pub record Whole (rules : List Rule) (rows : List Record) (codes : List ℕ) (n : ℕ) : Type 0 where
@@ -47,19 +57,19 @@ pub record Whole (rules : List Rule) (rows : List Record) (codes : List ℕ) (n 
   pub rules-in : (k m : ℕ) (r : Rule) (h : Head) → k < n → nth rules m ≡ some r → Applies r (shapeNo codes k) → In h (r .heads)
       → Has codes n (shapeFrom r (shapeNo codes k) h)
 
--- The marks of the rules that fire on one of the first n shapes: rule i, from 0.
-pub record FiredMarks (rules : List Rule) (codes fired : List ℕ) (n : ℕ) : Type 0 where
+-- 1 for each rule that fires on one of the first n shapes: rule i, from 0.
+pub record FiredRules (rules : List Rule) (codes fired : List ℕ) (n : ℕ) : Type 0 where
   pub size : length fired ≡ 256
   pub sound : (i : ℕ) → (getD fired i 0 ≡ 0 → ⊥) → (getD fired i 0 ≡ 1) × ((r : Rule) × (nth rules (suc i) ≡ some r) × ((k : ℕ) × (k < n) × Applies r (shapeNo codes k)))
   pub complete : (i k : ℕ) (r : Rule) → nth rules (suc i) ≡ some r → k < n → Applies r (shapeNo codes k) → getD fired i 0 ≡ 1
 
 -- What the search answers.
-pub record Searched (rules : List Rule) (rows : List Record) (codes index parents makers headers fired : List ℕ) (n : ℕ) (full : Bool) : Type 0 where
-  pub all : full ≡ false → Kept rules rows codes index parents makers headers n × Whole rules rows codes n × FiredMarks rules codes fired n
+pub record Searched (rules : List Rule) (rows : List Record) (codes index : List ℕ) (ways : List (List ℕ)) (fired : List ℕ) (n : ℕ) (full : Bool) : Type 0 where
+  pub all : full ≡ false → Kept rules rows codes index ways n × Whole rules rows codes n × FiredRules rules codes fired n
   pub more : full ≡ true → MoreThan (Derived rules rows) 512
 
--- How many of the first n marks are 1.
+-- How many of the first n numbers are 1.
 abbrev pub onesIn : ℕ → List ℕ → ℕ
-onesIn zero marks = 0
+onesIn zero numbers = 0
 onesIn (suc n) [] = 0
 onesIn (suc n) (m ∷ ms) = cond (eqb m 1) (suc (onesIn n ms)) (onesIn n ms)

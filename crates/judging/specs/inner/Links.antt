@@ -1,5 +1,6 @@
 -- The links between fields of found shapes, and what raising the generations along them leaves. Assumes nothing.
 use mathlib.Core.Path.{_≡_}
+use mathlib.Core.Bool.{Bool, true, false}
 use mathlib.Core.List.{List}
 use mathlib.Core.Logic.{_⊎_}
 use mathlib.Core.Option.{some}
@@ -11,6 +12,8 @@ use Rattle.chase.specs.Simplification.{Applies}
 use Rattle.judging.specs.inner.Table.{firstPlace, sourceAt}
 use Rattle.judging.specs.inner.Codes.{codeOf, ShapeFits, shapeFrom}
 use Rattle.judging.specs.inner.Found.{shapeNo}
+use Rattle.judging.specs.declared.spread.Turning.{Turning}
+use Rattle.judging.specs.declared.spread.Turning.the-variants.{Nowhere, At}
 use Rattle.judging.specs.inner.Nodes.{at, Grid, Stable, Turn, Line}
 
 -- Where a link begins: a carried one at the first place of the mark, a fresh one at a place that fresh numbers come from.
@@ -53,6 +56,15 @@ pub record Closed (rules : List Rule) (codes index : List ℕ) (count : ℕ) : T
   pub marked : (code k : ℕ) → getD index code 0 ≡ suc k → (k < count) × (getD codes k 0 ≡ code)
   pub rules-in : (k m : ℕ) (r : Rule) (h : Head) (code : ℕ) → k < count → nth rules m ≡ some r → Applies r (shapeNo codes k) → In h (r .heads)
       → code ≡ codeOf (shapeFrom r (shapeNo codes k) h) → getD index code 0 ≡ 0 → ⊥
+
+-- A node of a loop as a number: 0 where there is none, and otherwise one more than the node.
+abbrev pub turningNumber : Turning → ℕ
+turningNumber Nowhere = 0
+turningNumber (At y) = suc y
+
+abbrev pub hasTurn : Turning → Bool
+hasTurn Nowhere = false
+hasTurn (At y) = true
 
 -- What raising the generations leaves. turning is 0 where all is settled, and otherwise one more than a node of a loop.
 pub record Spreads (rules : List Rule) (codes : List ℕ) (count : ℕ) (generations from link : List (List ℕ)) (turning : ℕ) : Type 0 where

@@ -1,5 +1,6 @@
 -- What following links leaves: the contracts of the inner functions that raise the generations. Assumes nothing.
 use mathlib.Core.Path.{_≡_}
+use mathlib.Core.Bool.{Bool, true, false}
 use mathlib.Core.List.{List}
 use mathlib.Core.Logic.{_⊎_}
 use mathlib.Core.Option.{some}
@@ -9,7 +10,11 @@ use Rattle.chase.specs.Rules.{Head, nth}
 use Rattle.chase.specs.Simplification.{Applies}
 use Rattle.judging.specs.inner.Table.{rowBytes, ruleIn}
 use Rattle.judging.specs.inner.Codes.{shapeAt, codeOf, shapeFrom}
-use Rattle.judging.specs.inner.Nodes.{at, Grid, back, weight}
+use Rattle.judging.specs.inner.Nodes.{at, Grid, RaiseGrid, fromOf, linkOf, back, weight}
+use Rattle.judging.specs.declared.spread.Raised.{Raised}
+use Rattle.judging.specs.declared.spread.Raised.the-variants.{Nothing, Node, Over}
+use Rattle.judging.specs.declared.spread.Source.{Source}
+use Rattle.judging.specs.declared.spread.Source.the-variants.{Place, Nowhere}
 
 -- A raised node was raised from a node that was at least so high, and by a carried link from one that was raised before it.
 pub record Timed (G F K : ℕ → ℕ) : Type 0 where
@@ -19,18 +24,42 @@ pub record Timed (G F K : ℕ → ℕ) : Type 0 where
   pub early : (v : ℕ) → stamp v < clock
   pub older : (v : ℕ) → 0 < G v → weight (K v) ≡ 0 → G (F v) ≤ G v → stamp (F v) < stamp v
 
--- The state where there are n nodes. `last` is 0 where nothing was raised, v + 1 where v was raised last, v + 4097 where v was raised above n.
-pub record Live (n : ℕ) (g from link : List (List ℕ)) (waiting : List ℕ) (last : ℕ) : Type 0 where
+-- What was raised last: whether something was, whether it was raised above the number of nodes, and the node.
+abbrev pub changes : Raised → ℕ
+changes Nothing = 0
+changes (Node v) = 1
+changes (Over v) = 1
+
+abbrev pub overs : Raised → ℕ
+overs Nothing = 0
+overs (Node v) = 0
+overs (Over v) = 1
+
+abbrev pub isCalm : Raised → Bool
+isCalm Nothing = true
+isCalm (Node v) = false
+isCalm (Over v) = false
+
+abbrev pub isOver : Raised → Bool
+isOver Nothing = false
+isOver (Node v) = false
+isOver (Over v) = true
+
+abbrev pub nodeOf : Raised → ℕ
+nodeOf Nothing = 0
+nodeOf (Node v) = v
+nodeOf (Over v) = v
+
+-- The state where there are n nodes.
+pub record Live (n : ℕ) (g : List (List ℕ)) (raises : List (List (List ℕ))) (waiting : List ℕ) (last : Raised) : Type 0 where
   pub grid : Grid g
-  pub grid-from : Grid from
-  pub grid-link : Grid link
+  pub raise-grid : RaiseGrid raises
   pub size : length waiting ≡ 512
   pub small : n ≤ 3584
-  pub timed : Timed (at g) (at from) (at link)
-  pub node : last ≤ 4096 → last ≤ n
-  pub over : last ≤ n + 4096
-  pub low : (v : ℕ) → (v + 4097 ≡ last → ⊥) → at g v ≤ n
-  pub high : (v : ℕ) → v + 4097 ≡ last → n < at g v
+  pub timed : Timed (at g) (at (fromOf raises)) (at (linkOf raises))
+  pub node : 0 < changes last → nodeOf last < n
+  pub low : (v : ℕ) → (overs last ≡ 1 → nodeOf last ≡ v → ⊥) → at g v ≤ n
+  pub high : overs last ≡ 1 → n < at g (nodeOf last)
 
 -- The sum of the first n values.
 unfoldable pub sumTo : ℕ → (ℕ → ℕ) → ℕ
@@ -42,32 +71,33 @@ abbrev pub Rests : List (List ℕ) → List ℕ → ℕ → ℕ → ℕ → Type
 Rests g waiting u v code = (getD waiting (u / 7) 0 ≡ 1) ⊎ (at g u + weight code ≤ at g v)
 
 -- A node is as it was.
-pub record Same (g₀ from₀ link₀ g from link : List (List ℕ)) (v : ℕ) : Type 0 where
+pub record Same (g₀ : List (List ℕ)) (raises₀ : List (List (List ℕ))) (g : List (List ℕ)) (raises : List (List (List ℕ))) (v : ℕ) : Type 0 where
   pub high : at g v ≡ at g₀ v
-  pub from-is : at from v ≡ at from₀ v
-  pub link-is : at link v ≡ at link₀ v
+  pub from-is : at (fromOf raises) v ≡ at (fromOf raises₀) v
+  pub link-is : at (linkOf raises) v ≡ at (linkOf raises₀) v
 
 -- The links of P were followed.
-pub record Done (n : ℕ) (P : ℕ → ℕ → ℕ → Type 0) (g₀ from₀ link₀ : List (List ℕ)) (waiting₀ : List ℕ) (last₀ : ℕ)
-    (g from link : List (List ℕ)) (waiting : List ℕ) (last : ℕ) : Type 0 where
-  pub live : Live n g from link waiting last
-  pub begun : last ≡ 0 → last₀ ≡ 0
-  pub marks : last ≡ 0 → waiting ≡ waiting₀
-  pub rests : last ≤ 4096 → (u v code : ℕ) → P u v code → Rests g waiting u v code
+pub record Done (n : ℕ) (P : ℕ → ℕ → ℕ → Type 0) (g₀ : List (List ℕ)) (raises₀ : List (List (List ℕ))) (waiting₀ : List ℕ) (last₀ : Raised)
+    (g : List (List ℕ)) (raises : List (List (List ℕ))) (waiting : List ℕ) (last : Raised) : Type 0 where
+  pub live : Live n g raises waiting last
+  pub begun : changes last ≡ 0 → changes last₀ ≡ 0
+  pub still : changes last ≡ 0 → waiting ≡ waiting₀
+  pub rests : overs last ≡ 0 → (u v code : ℕ) → P u v code → Rests g waiting u v code
   pub keeps : (u v code : ℕ) → Rests g₀ waiting₀ u v code → Rests g waiting u v code
   pub grown : sumTo n (at g₀) ≤ sumTo n (at g)
-  pub more : last₀ ≡ 0 → 0 < last → sumTo n (at g₀) < sumTo n (at g)
-  pub going : last ≤ 4096 → last₀ ≤ 4096
-  pub edges : (v : ℕ) → Same g₀ from₀ link₀ g from link v ⊎ P (at from v) v (at link v)
+  pub more : changes last₀ ≡ 0 → 0 < changes last → sumTo n (at g₀) < sumTo n (at g)
+  pub going : overs last ≡ 0 → overs last₀ ≡ 0
+  pub edges : (v : ℕ) → Same g₀ raises₀ g raises v ⊎ P (at (fromOf raises) v) v (at (linkOf raises) v)
 
 -- The waiting shapes' links were followed, those of E in all.
-pub record Swept (n : ℕ) (E : ℕ → ℕ → ℕ → Type 0) (s : ℕ) (g₀ from₀ link₀ g from link : List (List ℕ)) (waiting : List ℕ) (last : ℕ) : Type 0 where
-  pub live : Live n g from link waiting last
-  pub rests : last ≤ 4096 → (u v code : ℕ) → E u v code → Rests g waiting u v code
-  pub clear : last ≡ 0 → (x : ℕ) → x < s → getD waiting x 0 ≡ 1 → ⊥
+pub record Swept (n : ℕ) (E : ℕ → ℕ → ℕ → Type 0) (s : ℕ) (g₀ : List (List ℕ)) (raises₀ : List (List (List ℕ))) (g : List (List ℕ)) (raises : List (List (List ℕ)))
+    (waiting : List ℕ) (last : Raised) : Type 0 where
+  pub live : Live n g raises waiting last
+  pub rests : overs last ≡ 0 → (u v code : ℕ) → E u v code → Rests g waiting u v code
+  pub clear : changes last ≡ 0 → (x : ℕ) → x < s → getD waiting x 0 ≡ 1 → ⊥
   pub grown : sumTo n (at g₀) ≤ sumTo n (at g)
-  pub more : 0 < last → sumTo n (at g₀) < sumTo n (at g)
-  pub edges : (v : ℕ) → Same g₀ from₀ link₀ g from link v ⊎ E (at from v) v (at link v)
+  pub more : 0 < changes last → sumTo n (at g₀) < sumTo n (at g)
+  pub edges : (v : ℕ) → Same g₀ raises₀ g raises v ⊎ E (at (fromOf raises) v) v (at (linkOf raises) v)
 
 -- One link.
 pub record Just (x y z u v code : ℕ) : Type 0 where
@@ -82,16 +112,27 @@ pub record Upto (k : ℕ) (P : ℕ → ℕ → ℕ → ℕ → Type 0) (u v code
   pub here : P number u v code
 
 -- The fresh link to node y from place p of shape s.
-pub record FreshE (bytes : List ℕ) (s y z p u v code : ℕ) : Type 0 where
+pub record FreshLink (bytes : List ℕ) (s y z p u v code : ℕ) : Type 0 where
   pub source : getD bytes (21 + p) 0 ≡ 1
   pub just : Just (7 * s + p) y z u v code
 
--- The source p of a rule's fresh links with the largest generation in shape s; 7 where the rule has no source.
-pub record Best (bytes : List ℕ) (g : List (List ℕ)) (s p : ℕ) : Type 0 where
-  pub place : p ≤ 7
-  pub none : p ≡ 7 → (q : ℕ) → q < 7 → getD bytes (21 + q) 0 ≡ 1 → ⊥
-  pub source : p < 7 → getD bytes (21 + p) 0 ≡ 1
-  pub most : p < 7 → (q : ℕ) → q < 7 → getD bytes (21 + q) 0 ≡ 1 → at g (7 * s + q) ≤ at g (7 * s + p)
+-- A rule's bytes have no source from place k on.
+abbrev pub NoSource : List ℕ → ℕ → Type 0
+NoSource bytes k = (q : ℕ) → k ≤ q → q < 7 → getD bytes (21 + q) 0 ≡ 1 → ⊥
+
+-- Place p is a source of a rule's fresh links, and of those from place k on it has the largest generation in shape s.
+pub record BestPlace (bytes : List ℕ) (g : List (List ℕ)) (s k p : ℕ) : Type 0 where
+  pub place : p < 7
+  pub source : getD bytes (21 + p) 0 ≡ 1
+  pub most : (q : ℕ) → k ≤ q → q < 7 → getD bytes (21 + q) 0 ≡ 1 → at g (7 * s + q) ≤ at g (7 * s + p)
+
+-- The source from place k on with the largest generation.
+abbrev pub BestFrom : List ℕ → List (List ℕ) → ℕ → ℕ → Source → Type 0
+BestFrom bytes g s k (Place p) = BestPlace bytes g s k p
+BestFrom bytes g s k Nowhere = NoSource bytes k
+
+abbrev pub Best : List ℕ → List (List ℕ) → ℕ → Source → Type 0
+Best bytes g s source = BestFrom bytes g s 0 source
 
 -- The first place of the mark in field j of H line h; 0 for a fresh mark.
 abbrev pub placeOf : List ℕ → ℕ → ℕ → ℕ
@@ -105,32 +146,32 @@ pub record LineBytes (bytes : List ℕ) (h : ℕ) : Type 0 where
   pub places : (j : ℕ) → j < getD bytes (33 + 8 * h) 0 → placeOf bytes h j ≤ 6
 
 -- The links of rule r and H line h from shape s to field j, from 0, of shape t.
-pub data FieldE (bytes : List ℕ) (r h s t j u v code : ℕ) : Type 0 where
-  carriedE : (placeOf bytes h j ≡ 0 → ⊥) → Just (7 * s + placeOf bytes h j) (7 * t + (j + 1)) (8 * r + 2 * h) u v code → FieldE bytes r h s t j u v code
-  freshE : placeOf bytes h j ≡ 0 → Upto 7 (FreshE bytes s (7 * t + (j + 1)) (8 * r + 2 * h + 1)) u v code → FieldE bytes r h s t j u v code
+pub data FieldLink (bytes : List ℕ) (r h s t j u v code : ℕ) : Type 0 where
+  carriedLink : (placeOf bytes h j ≡ 0 → ⊥) → Just (7 * s + placeOf bytes h j) (7 * t + (j + 1)) (8 * r + 2 * h) u v code → FieldLink bytes r h s t j u v code
+  freshLink : placeOf bytes h j ≡ 0 → Upto 7 (FreshLink bytes s (7 * t + (j + 1)) (8 * r + 2 * h + 1)) u v code → FieldLink bytes r h s t j u v code
 
-abbrev pub HeadE : List ℕ → ℕ → ℕ → ℕ → ℕ → ℕ → ℕ → ℕ → Type 0
-HeadE bytes r h s t = Upto (getD bytes (33 + 8 * h) 0) (FieldE bytes r h s t)
+abbrev pub HeadLink : List ℕ → ℕ → ℕ → ℕ → ℕ → ℕ → ℕ → ℕ → Type 0
+HeadLink bytes r h s t = Upto (getD bytes (33 + 8 * h) 0) (FieldLink bytes r h s t)
 
 -- The links of rule r and H line h from shape s, which has a code, to the shape that they make.
-pub record MadeE (bytes index : List ℕ) (code s r h u v link : ℕ) : Type 0 where
+pub record MadeLink (bytes index : List ℕ) (code s r h u v link : ℕ) : Type 0 where
   pub head : Head
   pub line : nth (ruleIn bytes .heads) (suc h) ≡ some head
   pub t : ℕ
   pub placed : getD index (codeOf (shapeFrom (ruleIn bytes) (shapeAt code) head)) 0 ≡ suc t
-  pub here : HeadE bytes r h s t u v link
+  pub here : HeadLink bytes r h s t u v link
 
-pub record RuleE (table index : List ℕ) (code s r u v link : ℕ) : Type 0 where
+pub record RuleLink (table index : List ℕ) (code s r u v link : ℕ) : Type 0 where
   pub applies : Applies (ruleIn (rowBytes table r)) (shapeAt code)
-  pub here : Upto (getD (rowBytes table r) 28 0) (MadeE (rowBytes table r) index code s r) u v link
+  pub here : Upto (getD (rowBytes table r) 28 0) (MadeLink (rowBytes table r) index code s r) u v link
 
 -- All links from shape s, which has a code.
-abbrev pub ShapeE : List ℕ → ℕ → List ℕ → ℕ → ℕ → ℕ → ℕ → ℕ → Type 0
-ShapeE table rules index code s = Upto rules (RuleE table index code s)
+abbrev pub ShapeLink : List ℕ → ℕ → List ℕ → ℕ → ℕ → ℕ → ℕ → ℕ → Type 0
+ShapeLink table rules index code s = Upto rules (RuleLink table index code s)
 
 -- All links.
-abbrev pub EachE : List ℕ → ℕ → List ℕ → List ℕ → ℕ → ℕ → ℕ → ℕ → Type 0
-EachE table rules codes index count = Upto count (λ s. ShapeE table rules index (getD codes s 0) s)
+abbrev pub EachLink : List ℕ → ℕ → List ℕ → List ℕ → ℕ → ℕ → ℕ → ℕ → Type 0
+EachLink table rules codes index count = Upto count (λ s. ShapeLink table rules index (getD codes s 0) s)
 
 -- Every shape that a rule makes of this one has a place, and its fields are among the n nodes.
 pub record Onward (table : List ℕ) (rules : ℕ) (index : List ℕ) (n code : ℕ) : Type 0 where
@@ -153,8 +194,3 @@ pub record Inside (n : ℕ) (g from : List (List ℕ)) (x : ℕ) : Type 0 where
 pub record Walked (n : ℕ) (g from : List (List ℕ)) (x r : ℕ) : Type 0 where
   pub short : r ≡ 0 → (k : ℕ) × (k < n) × Long (at g) (at from) k x × (at g (back (at from) k x) ≡ 0)
   pub long : 0 < r → (r ≡ back (at from) n x + 1) × Long (at g) (at from) n x
-
--- Which node a sweep's answer names.
-pub record Last (r x : ℕ) : Type 0 where
-  pub usual : r ≤ 4096 → x + 1 ≡ r
-  pub high : 4096 < r → x + 4097 ≡ r

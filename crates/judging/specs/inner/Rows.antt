@@ -13,6 +13,8 @@ use Rattle.chase.specs.Counting.{MoreThan}
 use Rattle.chase.specs.Simplification.{Derived}
 use Rattle.judging.specs.inner.Table.{KindFits, rowsIn}
 use Rattle.judging.specs.inner.Found.{Has, Kept}
+use Rattle.judging.specs.declared.search.RowShapes.{RowShapes}
+use Rattle.judging.specs.declared.search.RowShapes.the-variants.{Count, Over}
 
 -- n zeros.
 pub record Clear (xs : List ℕ) (n : ℕ) : Type 0 where
@@ -36,11 +38,11 @@ pub record RowAt (numbers : List ℕ) (n width number : ℕ) : Type 0 where
   pub few-width : width ≤ 6
 
 -- The first n shapes, among them those of the first `row` rows.
-pub record RowsFound (rules : List Rule) (rows : List Record) (codes index parents makers headers : List ℕ) (n row : ℕ) : Type 0 where
-  pub kept : Kept rules rows codes index parents makers headers n
+pub record RowsFound (rules : List Rule) (rows : List Record) (codes index : List ℕ) (ways : List (List ℕ)) (n row : ℕ) : Type 0 where
+  pub kept : Kept rules rows codes index ways n
   pub rows-in : (k : ℕ) (x : Record) → k < row → nth rows (suc k) ≡ some x → Has codes n (shapeOf x)
 
--- What the search for the shapes of so many rows answers: how many there are, or a number above 512.
-pub record RowsTried (rules : List Rule) (rows : List Record) (codes index parents makers headers : List ℕ) (n row : ℕ) : Type 0 where
-  pub found : n ≤ 512 → RowsFound rules rows codes index parents makers headers n row
-  pub more : 512 < n → MoreThan (Derived rules rows) 512
+-- What the search for the shapes of so many rows answers: how many shapes there are, or that there are more than 512.
+abbrev pub RowsTried : List Rule → List Record → List ℕ → List ℕ → List (List ℕ) → ℕ → RowShapes → Type 0
+RowsTried rules rows codes index ways row (Count n) = RowsFound rules rows codes index ways n row
+RowsTried rules rows codes index ways row Over = MoreThan (Derived rules rows) 512

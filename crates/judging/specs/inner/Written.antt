@@ -5,6 +5,7 @@ use Prim.Native.Nat.{ℕ, zero, suc, _+_, _-_, _*_, _/_, _%_, _≤_, _<_}
 use lib.ListN.{length, getD}
 use lib.Seq.{paste}
 use Rattle.chase.specs.Steps.{Step, stepNumbers}
+use Rattle.judging.specs.inner.Found.{parentAt, makerAt, hLineAt}
 use Rattle.judging.specs.inner.Nodes.{at, back, weight}
 
 -- The step of a link from node u to node v.
@@ -21,31 +22,31 @@ abbrev pub reachStep : ℕ → ℕ → Step
 reachStep rule head = record { rule = rule; head = head; from = 0; to = 0; fresh = 0 }
 
 -- The place of the shape that the shape at place s was made of.
-abbrev pub madeOf : List ℕ → ℕ → ℕ
-madeOf parents s = getD parents s 0 - 1
+abbrev pub madeOf : List (List ℕ) → ℕ → ℕ
+madeOf ways s = parentAt ways s - 1
 
 -- The place that lies k firings back from place s.
-abbrev pub wayBack : List ℕ → ℕ → ℕ → ℕ
-wayBack parents zero s = s
-wayBack parents (suc k) s = wayBack parents k (madeOf parents s)
+abbrev pub wayBack : List (List ℕ) → ℕ → ℕ → ℕ
+wayBack ways zero s = s
+wayBack ways (suc k) s = wayBack ways k (madeOf ways s)
 
 -- The last k firings that lead to the shape at place s.
-abbrev pub wayTo : List ℕ → List ℕ → List ℕ → ℕ → ℕ → List Step
-wayTo parents makers headers zero s = []
-wayTo parents makers headers (suc k) s =
-    wayTo parents makers headers k (madeOf parents s) ++ (reachStep (getD makers s 0) (getD headers s 0) ∷ [])
+abbrev pub wayTo : List (List ℕ) → ℕ → ℕ → List Step
+wayTo ways zero s = []
+wayTo ways (suc k) s =
+    wayTo ways k (madeOf ways s) ++ (reachStep (makerAt ways s) (hLineAt ways s) ∷ [])
 
 -- Each shape that is not a row's was made of one that was found before it.
-pub record Falls (parents : List ℕ) (n : ℕ) : Type 0 where
-  pub size : length parents ≡ 512
+pub record Falls (ways : List (List ℕ)) (n : ℕ) : Type 0 where
+  pub size : length ways ≡ 512
   pub few : n ≤ 512
-  pub before : (k : ℕ) → k < n → getD parents k 0 ≤ k
+  pub before : (k : ℕ) → k < n → parentAt ways k ≤ k
 
 -- k firings lead from a row's shape to the shape at place s, and no fewer.
-pub record WayLength (parents : List ℕ) (s k : ℕ) : Type 0 where
+pub record WayLength (ways : List (List ℕ)) (s k : ℕ) : Type 0 where
   pub short : k ≤ s
-  pub row : getD parents (wayBack parents k s) 0 ≡ 0
-  pub made : (j : ℕ) → j < k → 0 < getD parents (wayBack parents j s) 0
+  pub row : parentAt ways (wayBack ways k s) ≡ 0
+  pub made : (j : ℕ) → j < k → 0 < parentAt ways (wayBack ways j s)
 
 -- Steps put into lent numbers at step `at`.
 abbrev pub putSteps : List ℕ → ℕ → List Step → List ℕ

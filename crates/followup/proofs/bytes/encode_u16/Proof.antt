@@ -1,4 +1,5 @@
 -- `followup::bytes::encode_u16` meets its contract. The loop's invariant: the bytes of the first i numbers stand at the front. Assumes nothing.
+use mathlib.Core.Path.{refl}
 use Prim.Native.Nat.{_-_, _*_}
 use native.Mathlib.Omega.{arith}
 use native.Mathlib.Numerals.{add-one}
@@ -51,7 +52,7 @@ loop-again : tie.Need-loop-again Inv-loop μ-loop
 loop-again c =
     let loop = c .before .before .loop in
     let at = 2 * loop .i in
-    rw (add-one at) (encoding-more (search needs) (loop .inv))
+    rw (add-one at) (encoding-more refl (search needs) (loop .inv))
 
 same-length : tie.Need-same-length Inv-loop μ-loop
 same-length c = search needs

@@ -4,7 +4,7 @@ use native.Mathlib.Omega.{arith}
 use native.Mathlib.Numerals.{add-one, add-two, add-three}
 use borrow.Author.Needs.{needs}
 use lib.ListN.{length-set}
-use Rattle.followup.proofs.ByteLaws.{Encoding, encoding-begun, encoding-more, encoding-done, third-byte, fourth-byte}
+use Rattle.followup.proofs.ByteLaws.{Encoding, encoding-begun, encoding-more, encoding-done, four-bytes}
 use Rattle.followup.proofs.bytes.encode_u32.Statement.{statement}
 use Rattle.followup.proofs.bytes.encode_u32.Tie as tie
 
@@ -69,7 +69,7 @@ loop-again : tie.Need-loop-again Inv-loop μ-loop
 loop-again c =
     let loop = c .before .before .loop in
     let at = 4 * loop .i in
-    rw (add-one at, add-two at, add-three at, third-byte, fourth-byte) (encoding-more (search needs) (loop .inv))
+    rw (add-one at, add-two at, add-three at) (encoding-more (four-bytes _) (search needs) (loop .inv))
 
 same-length : tie.Need-same-length Inv-loop μ-loop
 same-length c = search needs

@@ -15,7 +15,7 @@ returns c =
     record {
       figures = _;
       says = refl;
-      deepest = refl;
+      deepest = c .before .before .before .before .before .pre .1 .deepest;
       shapes = refl;
       fired-is = refl;
       share-is = refl;

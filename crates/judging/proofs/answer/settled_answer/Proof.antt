@@ -15,7 +15,7 @@ deepest-requires c κs = search needs
 number-requires : tie.Need-number-requires
 number-requires c κs =
     let start = c .before .before in
-    (start .pre .1, deepest-within (start .pre .0 .falls .few) (c .deepest .ensures))
+    (start .pre .2, deepest-within (start .pre .0 .falls .few) (c .deepest .ensures))
 
 cast-deepest : tie.Need-cast-deepest
 cast-deepest c = search needs
@@ -24,17 +24,19 @@ returns : tie.Need-returns
 returns c =
     let none = c .if1 .taken in
     let is = c .before .number .ensures in
+    let counts = c .before .before .before .before .pre .1 in
+    let flat = counts .deepest in
     record {
       figures = _;
       says = refl;
       node = c .before .before .deepest .result;
       deep = c .before .before .deepest .ensures;
-      deepest = is;
+      deepest = omega arith;
       shapes = refl;
       fired-is = refl;
       share-is = refl;
-      turns = refl;
-      flat = λ z. (refl, refl, refl);
+      turns = counts .turns;
+      flat = λ z. (counts .row, counts .trail, refl);
       raised = λ r. absurd (omega arith);
     }
 
@@ -43,8 +45,8 @@ write-settled-requires c κs =
     let start = c .before .before .before .before .before in
     let some = c .before .if1 .left in
     let is = c .before .before .number .ensures in
-    let lines = start .pre .2 in
-    (start .pre .0, start .pre .1, lines .below _ (omega arith), lines .lines _ (omega arith))
+    let lines = start .pre .3 in
+    (start .pre .0, start .pre .2, lines .below _ (omega arith), lines .lines _ (omega arith))
 
 same-length : tie.Need-same-length
 same-length c = search needs
@@ -63,7 +65,7 @@ returns-2 c =
       shapes = refl;
       fired-is = refl;
       share-is = refl;
-      turns = c .before .before .write-settled .ensures .1;
+      turns = c .before .before .before .before .before .before .before .before .pre .1 .turns;
       flat = λ z. absurd (some (omega arith));
       raised = λ r. c .before .before .write-settled .ensures .0;
     }

@@ -19,8 +19,8 @@ way-length-requires c κs = search needs
 put-way-requires : tie.Need-put-way-requires
 put-way-requires c κs = search needs
 
-put-line-requires : tie.Need-put-line-requires
-put-line-requires c κs =
+put-links-requires : tie.Need-put-links-requires
+put-links-requires c κs =
     let start = c .before .before .before .before .before .before .before .before in
     let lent = start .pre .0 in
     let few = lent .falls .few in
@@ -28,7 +28,7 @@ put-line-requires c κs =
     let short = c .before .before .before .before .before .way-length .ensures .short in
     let turns = c .before .before .before .before .before .before .turn-length .ensures .few in
     let kept = c .before .before .before .put-way .kept .0 in
-    (lent .from-grid, lent .link-grid, turn-stays (start .pre .2) (omega arith) _, omega arith)
+    (turn-stays (start .pre .2) (omega arith) _, omega arith)
 
 same-length : tie.Need-same-length
 same-length c = search needs
@@ -44,10 +44,10 @@ returns c =
     let put = c .before .before .before .before .before .before .put-way .ensures in
     let short = way .short in
     let turns = turn .few in
-    wrote-endless (start .args .parents .now) (start .args .makers .now) (start .args .headers .now) (start .args .from .now) (start .args .link .now)
+    wrote-endless (start .args .ways .now) (start .args .raises .now)
     (start .args .steps .now)
     (c .before .before .before .before .before .before .before .before .way-length .result) (c .before .before .before .before .before .before .before .before .before .turn-length .result) (start .args .y / 7) (start .args .y)
-    (omega arith) (put .0) (c .before .before .put-line .ensures) way turn (put .1) refl
+    (omega arith) (put .0) (c .before .before .put-links .ensures) way turn (put .1) refl
 
 pub write-endless-spec : {M : Type 1} → statement M
 write-endless-spec =
@@ -57,6 +57,6 @@ write-endless-spec =
     turn-length-requires
     way-length-requires
     put-way-requires
-    put-line-requires
+    put-links-requires
     same-length
     returns)

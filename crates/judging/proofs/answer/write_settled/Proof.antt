@@ -17,7 +17,7 @@ line-start-requires : tie.Need-line-start-requires
 line-start-requires c κs =
     let start = c .before .before in
     let few = start .pre .0 .falls .few in
-    (start .pre .0 .from-grid, line-stays (start .pre .3) (c .line-length .ensures) (omega arith))
+    line-stays (start .pre .3) (c .line-length .ensures) (omega arith)
 
 way-length-requires : tie.Need-way-length-requires
 way-length-requires c κs =
@@ -36,10 +36,10 @@ put-way-requires c κs =
     let below = line-nodes (start .pre .3) (line .ensures) (line .result) (omega arith) in
     let from = c .before .before .line-start .ensures in
     let short = c .before .way-length .ensures .short in
-    (lent .falls, omega arith, lent .makers-size, lent .headers-size, c .before .way-length .ensures, omega arith)
+    (lent .falls, omega arith, c .before .way-length .ensures, omega arith)
 
-put-line-requires : tie.Need-put-line-requires
-put-line-requires c κs =
+put-links-requires : tie.Need-put-links-requires
+put-links-requires c κs =
     let start = c .before .before .before .before .before .before .before .before .before in
     let lent = start .pre .0 in
     let few = lent .falls .few in
@@ -50,10 +50,10 @@ put-line-requires c κs =
     let from = c .before .before .before .before .before .before .line-start .ensures in
     let short = c .before .before .before .before .before .way-length .ensures .short in
     let kept = c .before .before .before .put-way .kept .0 in
-    (lent .from-grid, lent .link-grid, line-stays (start .pre .3) (line .ensures) (omega arith), omega arith)
+    (line-stays (start .pre .3) (line .ensures) (omega arith), omega arith)
 
-add-t14 : tie.Need-add-t14
-add-t14 c = search needs
+add-t11 : tie.Need-add-t11
+add-t11 c = search needs
 
 same-length : tie.Need-same-length
 same-length c = search needs
@@ -72,8 +72,8 @@ returns c =
     let way = c .before .before .before .before .before .before .before .before .way-length in
     let short = way .ensures .short in
     let put = c .before .before .before .before .before .before .put-way .ensures in (
-      wrote-settled (start .args .parents .now) (start .args .makers .now) (start .args .headers .now) (start .args .from .now) (start .args .link .now) (start .args .steps .now) (way .result) (line .result) (begin .result / 7) (start .args .x)
-          (omega arith) (put .0) (c .before .before .put-line .ensures) (start .pre .3) (line .ensures) from refl (way .ensures) (put .1),
+      wrote-settled (start .args .ways .now) (start .args .raises .now) (start .args .steps .now) (way .result) (line .result) (begin .result / 7) (start .args .x)
+          (omega arith) (put .0) (c .before .before .put-links .ensures) (start .pre .3) (line .ensures) from refl (way .ensures) (put .1),
       refl,
     )
 
@@ -86,7 +86,7 @@ write-settled-spec =
     line-start-requires
     way-length-requires
     put-way-requires
-    put-line-requires
-    add-t14
+    put-links-requires
+    add-t11
     same-length
     returns)

@@ -15,19 +15,19 @@ use Rattle.judging.proofs.notes.note_shape.Statement.{statement}
 use Rattle.judging.proofs.notes.note_shape.Tie as tie
 
 abbrev Inv-loop2 : tie.InvT-loop2
-Inv-loop2 table rules kinds shape index firings₀ targets₀ kind digits k₀ r heads h₀ firings targets k h =
+Inv-loop2 table rules kinds shape index notes₀ kind digits k₀ r heads h₀ notes k h =
     (h ≤ heads) × (heads ≡ getD (rowBytes table r) 28 0) × (r < rules) × Applies (ruleIn (rowBytes table r)) (shapeAt shape) × Trying shape kind digits
-    × Filling table rules index firings targets shape k r h
+    × Filling table rules index notes shape k r h
 
 abbrev μ-loop2 : tie.MeasureT-loop2
-μ-loop2 table rules kinds shape index firings₀ targets₀ kind digits k₀ r heads h₀ firings targets k h = heads - h
+μ-loop2 table rules kinds shape index notes₀ kind digits k₀ r heads h₀ notes k h = heads - h
 
 abbrev Inv-loop : tie.InvT-loop
-Inv-loop table rules kinds shape index firings₀ targets₀ kind digits k₀ r₀ firings targets k r =
-    (r ≤ rules) × (r < rules → FiresOn (ruleIn (rowBytes table r)) kind digits true) × Trying shape kind digits × Filling table rules index firings targets shape k r 0
+Inv-loop table rules kinds shape index notes₀ kind digits k₀ r₀ notes k r =
+    (r ≤ rules) × (r < rules → FiresOn (ruleIn (rowBytes table r)) kind digits true) × Trying shape kind digits × Filling table rules index notes shape k r 0
 
 abbrev μ-loop : tie.MeasureT-loop
-μ-loop table rules kinds shape index firings₀ targets₀ kind digits k₀ r₀ firings targets k r = rules - r
+μ-loop table rules kinds shape index notes₀ kind digits k₀ r₀ notes k r = rules - r
 
 add-kind : tie.Need-add-kind Inv-loop2 μ-loop2 Inv-loop μ-loop
 add-kind c =
@@ -50,7 +50,7 @@ loop-holds c =
     let l = s .pre .2 in
     let f = fire-from 0 (omega arith) (c .next-fire .ensures) in
     let on = trying (s .args .shape) _ (s .pre .3) (c .before .digits .ensures) in
-    (f .within, f .fires, on, filling-next (filling-begun (s .pre .6) (s .pre .7)) on f)
+    (f .within, f .fires, on, filling-next (filling-begun (s .pre .6)) on f)
 
 rule-byte-requires : tie.Need-rule-byte-requires Inv-loop2 μ-loop2 Inv-loop μ-loop
 rule-byte-requires c κs =
@@ -86,7 +86,7 @@ element-copy-out-note c = search needs
 
 note-requires : tie.Need-note-requires Inv-loop2 μ-loop2 Inv-loop μ-loop
 note-requires c κs =
-    let m = c .before .before .before in
+    let m = c .before .before in
     let s = m .before .before .before .before .before .before .before .before in
     let i = m .before .before .loop2 .inv in
     let x = i .5 in
@@ -96,7 +96,7 @@ note-requires c κs =
     let e = i .1 in
     let t = m .before .loop2-test .taken in
     let four = heads-few (s .pre .0) low in
-    (x .size-targets ∙ sym (x .size-firings), omega arith, filling-there x (s .pre .0) (s .pre .4) (i .4) low (omega arith) (i .3) (m .made .ensures))
+    (omega arith, filling-there x (s .pre .0) (s .pre .4) (i .4) low (omega arith) (i .3) (m .made .ensures))
 
 add-k : tie.Need-add-k Inv-loop2 μ-loop2 Inv-loop μ-loop
 add-k c = search needs
@@ -109,7 +109,7 @@ loop2-less c = search needs
 
 loop2-again : tie.Need-loop2-again Inv-loop2 μ-loop2 Inv-loop μ-loop
 loop2-again c =
-    let m = c .before .before .before .before in
+    let m = c .before .before .before in
     let s = m .before .before .before .before .before .before .before .before in
     let i = m .before .before .loop2 .inv in
     let e = i .1 in
@@ -119,7 +119,7 @@ loop2-again c =
       i .2,
       i .3,
       i .4,
-      filling-note (i .5) (s .pre .0) (s .pre .4) (i .4) (i .2) (omega arith) (i .3) (m .made .ensures) (c .note .ensures .0) (c .note .ensures .1),
+      filling-note (i .5) (s .pre .0) (s .pre .4) (i .4) (i .2) (omega arith) (i .3) (m .made .ensures) (c .note .ensures),
     )
 
 add-next-fire : tie.Need-add-next-fire Inv-loop2 μ-loop2 Inv-loop μ-loop
@@ -152,7 +152,7 @@ returns c =
     let i = c .before .loop .inv in
     let f = i .3 .few in
     let top = c .before .before .before .before .pre .0 .few in
-    let up = i .0 in (i .3 .size-firings, i .3 .size-targets, omega arith, filling-all (i .3) (i .0) (c .loop-test .left) refl)
+    let up = i .0 in (i .3 .size-notes, omega arith, filling-all (i .3) (i .0) (c .loop-test .left) refl)
 
 pub note-shape-spec : {M : Type 1} → statement M
 note-shape-spec =

@@ -6,25 +6,25 @@ use Rattle.judging.proofs.order.leads_back.Statement.{statement}
 use Rattle.judging.proofs.order.leads_back.Tie as tie
 
 abbrev Inv-loop : tie.InvT-loop
-Inv-loop targets starts count once₀ k₀ s₀ once k s = (k ≤ length targets) × (s ≤ count)
+Inv-loop notes starts count once₀ k₀ s₀ once k s = (k ≤ length notes) × (s ≤ count)
 
 abbrev μ-loop : tie.MeasureT-loop
-μ-loop targets starts count once₀ k₀ s₀ once k s = count - s + (length targets - k)
+μ-loop notes starts count once₀ k₀ s₀ once k s = count - s + (length notes - k)
 
 loop-holds : tie.Need-loop-holds Inv-loop μ-loop
 loop-holds c = search needs
 
-add-wide : tie.Need-add-wide Inv-loop μ-loop
-add-wide c = search needs
+add-of-u32 : tie.Need-add-of-u32 Inv-loop μ-loop
+add-of-u32 c = search needs
 
-mul-wide : tie.Need-mul-wide Inv-loop μ-loop
-mul-wide c = search needs
+mul-of-u32 : tie.Need-mul-of-u32 Inv-loop μ-loop
+mul-of-u32 c = search needs
 
-element-copy-out-wide : tie.Need-element-copy-out-wide Inv-loop μ-loop
-element-copy-out-wide c = search needs
+element-copy-out-of-u32 : tie.Need-element-copy-out-of-u32 Inv-loop μ-loop
+element-copy-out-of-u32 c = search needs
 
-wide-requires : tie.Need-wide-requires Inv-loop μ-loop
-wide-requires c κs = search needs
+of-u32-requires : tie.Need-of-u32-requires Inv-loop μ-loop
+of-u32-requires c κs = search needs
 
 add-s : tie.Need-add-s Inv-loop μ-loop
 add-s c = search needs
@@ -38,14 +38,17 @@ loop-again c = search needs
 returns : tie.Need-returns Inv-loop μ-loop
 returns c = search needs
 
-mul-wide-2 : tie.Need-mul-wide-2 Inv-loop μ-loop
-mul-wide-2 c = search needs
+mul-of-u16 : tie.Need-mul-of-u16 Inv-loop μ-loop
+mul-of-u16 c = search needs
 
-shared-slice-read-wide : tie.Need-shared-slice-read-wide Inv-loop μ-loop
-shared-slice-read-wide c = search needs
+index-1-of-u16 : tie.Need-index-1-of-u16 Inv-loop μ-loop
+index-1-of-u16 c = search needs
 
-wide-requires-2 : tie.Need-wide-requires-2 Inv-loop μ-loop
-wide-requires-2 c κs = search needs
+index-2-of-u16 : tie.Need-index-2-of-u16 Inv-loop μ-loop
+index-2-of-u16 c = search needs
+
+of-u16-requires : tie.Need-of-u16-requires Inv-loop μ-loop
+of-u16-requires c κs = search needs
 
 returns-2 : tie.Need-returns-2 Inv-loop μ-loop
 returns-2 c = search needs
@@ -69,17 +72,18 @@ leads-back-spec =
     Inv-loop
     μ-loop
     loop-holds
-    add-wide
-    mul-wide
-    element-copy-out-wide
-    wide-requires
+    add-of-u32
+    mul-of-u32
+    element-copy-out-of-u32
+    of-u32-requires
     add-s
     loop-less
     loop-again
     returns
-    mul-wide-2
-    shared-slice-read-wide
-    wide-requires-2
+    mul-of-u16
+    index-1-of-u16
+    index-2-of-u16
+    of-u16-requires
     returns-2
     add-k
     loop-less-2

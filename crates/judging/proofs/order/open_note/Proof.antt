@@ -7,46 +7,49 @@ use Rattle.judging.proofs.order.open_note.Statement.{statement}
 use Rattle.judging.proofs.order.open_note.Tie as tie
 
 abbrev Inv-loop : tie.InvT-loop
-Inv-loop targets starts next marks count s room end k₀ k = end ≤ length targets
+Inv-loop notes starts next marks count s room end k₀ k = end ≤ length notes
 
 abbrev μ-loop : tie.MeasureT-loop
-μ-loop targets starts next marks count s room end k₀ k = end - k
+μ-loop notes starts next marks count s room end k₀ k = end - k
 
-add-wide : tie.Need-add-wide Inv-loop μ-loop
-add-wide c = search needs
+add-of-u32 : tie.Need-add-of-u32 Inv-loop μ-loop
+add-of-u32 c = search needs
 
-mul-wide : tie.Need-mul-wide Inv-loop μ-loop
-mul-wide c = search needs
+mul-of-u32 : tie.Need-mul-of-u32 Inv-loop μ-loop
+mul-of-u32 c = search needs
 
-element-copy-out-wide : tie.Need-element-copy-out-wide Inv-loop μ-loop
-element-copy-out-wide c = search needs
+element-copy-out-of-u32 : tie.Need-element-copy-out-of-u32 Inv-loop μ-loop
+element-copy-out-of-u32 c = search needs
 
-wide-requires : tie.Need-wide-requires Inv-loop μ-loop
-wide-requires c κs = search needs
+of-u32-requires : tie.Need-of-u32-requires Inv-loop μ-loop
+of-u32-requires c κs = search needs
 
 returns : tie.Need-returns Inv-loop μ-loop
 returns c = search needs
 
-mul-wide-2 : tie.Need-mul-wide-2 Inv-loop μ-loop
-mul-wide-2 c = search needs
+mul-of-u32-2 : tie.Need-mul-of-u32-2 Inv-loop μ-loop
+mul-of-u32-2 c = search needs
 
-element-copy-out-wide-2 : tie.Need-element-copy-out-wide-2 Inv-loop μ-loop
-element-copy-out-wide-2 c = search needs
+element-copy-out-of-u32-2 : tie.Need-element-copy-out-of-u32-2 Inv-loop μ-loop
+element-copy-out-of-u32-2 c = search needs
 
-wide-requires-2 : tie.Need-wide-requires-2 Inv-loop μ-loop
-wide-requires-2 c κs = search needs
+of-u32-requires-2 : tie.Need-of-u32-requires-2 Inv-loop μ-loop
+of-u32-requires-2 c κs = search needs
 
 loop-holds : tie.Need-loop-holds Inv-loop μ-loop
 loop-holds c = search needs
 
-mul-wide-3 : tie.Need-mul-wide-3 Inv-loop μ-loop
-mul-wide-3 c = search needs
+mul-of-u16 : tie.Need-mul-of-u16 Inv-loop μ-loop
+mul-of-u16 c = search needs
 
-shared-slice-read-wide : tie.Need-shared-slice-read-wide Inv-loop μ-loop
-shared-slice-read-wide c = search needs
+index-1-of-u16 : tie.Need-index-1-of-u16 Inv-loop μ-loop
+index-1-of-u16 c = search needs
 
-wide-requires-3 : tie.Need-wide-requires-3 Inv-loop μ-loop
-wide-requires-3 c κs = search needs
+index-2-of-u16 : tie.Need-index-2-of-u16 Inv-loop μ-loop
+index-2-of-u16 c = search needs
+
+of-u16-requires : tie.Need-of-u16-requires Inv-loop μ-loop
+of-u16-requires c κs = search needs
 
 element-copy-out-if3 : tie.Need-element-copy-out-if3 Inv-loop μ-loop
 element-copy-out-if3 c = search needs
@@ -56,7 +59,7 @@ returns-2 c =
     record {
       within = search needs;
       place = search needs;
-      bare = λ l. subst (λ (i : ℕ). getD (c .before .before .before .before .before .before .before .before .before .before .before .before .before .args .marks .now) i 0 ≡ 0) (c .before .before .before .wide3 .ensures) (c .if3 .taken);
+      bare = λ l. subst (λ (i : ℕ). getD (c .before .before .before .before .before .before .before .before .before .before .before .before .args .marks .now) i 0 ≡ 0) (c .before .before .before .of-u16 .ensures) (c .if3 .taken);
     }
 
 add-k : tie.Need-add-k Inv-loop μ-loop
@@ -77,18 +80,19 @@ open-note-spec =
     (tie.spec
     Inv-loop
     μ-loop
-    add-wide
-    mul-wide
-    element-copy-out-wide
-    wide-requires
+    add-of-u32
+    mul-of-u32
+    element-copy-out-of-u32
+    of-u32-requires
     returns
-    mul-wide-2
-    element-copy-out-wide-2
-    wide-requires-2
+    mul-of-u32-2
+    element-copy-out-of-u32-2
+    of-u32-requires-2
     loop-holds
-    mul-wide-3
-    shared-slice-read-wide
-    wide-requires-3
+    mul-of-u16
+    index-1-of-u16
+    index-2-of-u16
+    of-u16-requires
     element-copy-out-if3
     returns-2
     add-k

@@ -12,27 +12,27 @@ use Rattle.judging.proofs.order.walked.Statement.{statement}
 use Rattle.judging.proofs.order.walked.Tie as tie
 
 abbrev Inv-loop : tie.InvT-loop
-Inv-loop targets starts count room order₀ left₀ marks₀ stack next order left marks =
+Inv-loop notes starts count room order₀ left₀ marks₀ stack next order left marks =
     (length next ≡ 513) × ((x : ℕ) → x < left → getD marks x 0 ≡ 0) × Walk count 0 order marks stack left 0
 
 abbrev μ-loop : tie.MeasureT-loop
-μ-loop targets starts count room order₀ left₀ marks₀ stack next order left marks =
+μ-loop notes starts count room order₀ left₀ marks₀ stack next order left marks =
     left
 
 abbrev Inv-loop3 : tie.InvT-loop3
-Inv-loop3 targets starts count room order₀ left₀ marks₀ stack₀ next₀ root depth₀ order left marks stack next depth =
+Inv-loop3 notes starts count room order₀ left₀ marks₀ stack₀ next₀ root depth₀ order left marks stack next depth =
     (root < count) × (length next ≡ 513) × Walk count (root + 1) order marks stack left depth
 
 abbrev μ-loop3 : tie.MeasureT-loop3
-μ-loop3 targets starts count room order₀ left₀ marks₀ stack₀ next₀ root depth₀ order left marks stack next depth =
+μ-loop3 notes starts count room order₀ left₀ marks₀ stack₀ next₀ root depth₀ order left marks stack next depth =
     2 * (count - marked count marks) + depth
 
 abbrev Inv-loop2 : tie.InvT-loop2
-Inv-loop2 targets starts count room order₀ left₀ marks₀ stack₀ next₀ root₀ order left marks stack next root =
+Inv-loop2 notes starts count room order₀ left₀ marks₀ stack₀ next₀ root₀ order left marks stack next root =
     (root ≤ count) × (length next ≡ 513) × Walk count root order marks stack left 0
 
 abbrev μ-loop2 : tie.MeasureT-loop2
-μ-loop2 targets starts count room order₀ left₀ marks₀ stack₀ next₀ root₀ order left marks stack next root =
+μ-loop2 notes starts count room order₀ left₀ marks₀ stack₀ next₀ root₀ order left marks stack next root =
     count - root
 
 -- The shape on top of the stack is a place.
@@ -50,11 +50,11 @@ low c =
 
 cast-room : tie.Need-cast-room Inv-loop μ-loop Inv-loop3 μ-loop3 Inv-loop2 μ-loop2
 cast-room c =
-    let few = c .before .pre .0 in omega arith
+    let few = c .pre .0 in omega arith
 
 loop-holds : tie.Need-loop-holds Inv-loop μ-loop Inv-loop3 μ-loop3 Inv-loop2 μ-loop2
 loop-holds c =
-    (c .before .before .pre .1, λ x l. zero-at 512 x, walk-none (c .before .before .pre .2) (length-replicate {A = ℕ} 512 0) (length-replicate {A = ℕ} 512 0) (length-replicate {A = ℕ} 512 0) (zero-at 512) (zero-at 512))
+    (c .before .pre .1, λ x l. zero-at 512 x, walk-none (c .before .pre .2) (length-replicate {A = ℕ} 512 0) (length-replicate {A = ℕ} 512 0) (length-replicate {A = ℕ} 512 0) (zero-at 512) (zero-at 512))
 
 mul-if1 : tie.Need-mul-if1 Inv-loop μ-loop Inv-loop3 μ-loop3 Inv-loop2 μ-loop2
 mul-if1 c = search needs
@@ -143,13 +143,16 @@ open-note-requires c κs =
 mul-t : tie.Need-mul-t Inv-loop μ-loop Inv-loop3 μ-loop3 Inv-loop2 μ-loop2
 mul-t c = search needs
 
-shared-slice-read-t :
-    tie.Need-shared-slice-read-t Inv-loop μ-loop Inv-loop3 μ-loop3 Inv-loop2 μ-loop2
-shared-slice-read-t c = search needs
+index-1-t :
+    tie.Need-index-1-t Inv-loop μ-loop Inv-loop3 μ-loop3 Inv-loop2 μ-loop2
+index-1-t c = search needs
+
+index-2-t : tie.Need-index-2-t Inv-loop μ-loop Inv-loop3 μ-loop3 Inv-loop2 μ-loop2
+index-2-t c = search needs
 
 cast-next : tie.Need-cast-next Inv-loop μ-loop Inv-loop3 μ-loop3 Inv-loop2 μ-loop2
 cast-next c =
-    let few = c .before .before .before .before .before .before .before .before .before .before .before .before .before .before .before .pre .0 in omega (arith, c .before .if3 .taken)
+    let few = c .before .before .before .before .before .before .before .before .before .before .before .before .before .before .pre .0 in omega (arith, c .before .if3 .taken)
 
 mul-next : tie.Need-mul-next Inv-loop μ-loop Inv-loop3 μ-loop3 Inv-loop2 μ-loop2
 mul-next c =
@@ -290,7 +293,8 @@ walked-spec =
     cast-s
     open-note-requires
     mul-t
-    shared-slice-read-t
+    index-1-t
+    index-2-t
     cast-next
     mul-next
     array-write-next

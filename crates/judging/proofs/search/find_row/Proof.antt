@@ -31,16 +31,16 @@ add-push c = search needs
 push-requires : tie.Need-push-requires
 push-requires c κs = search needs
 
-add-result : tie.Need-add-result
-add-result c = search needs
+add-t10 : tie.Need-add-t10
+add-t10 c = search needs
 
 returns-3 : tie.Need-returns-3
 returns-3 c =
-    let e = c .before .before .before .before .before .before in
+    let e = c .before .before .before .before in
     let r = e .before .before .before in
     let s = r .before .before in
     let p = c .push .ensures in
-    rw (p .0, p .1, p .2, p .3, p .4) (tried-push (s .pre .0) (s .pre .1) (r .row-code .result) (r .row-code .ensures) (e .if2 .left) (e .before .if1 .left))
+    rw (p .0, p .1, p .2) (tried-push (s .pre .0) (s .pre .1) (r .row-code .result) (r .row-code .ensures) (e .if2 .left) (e .before .if1 .left))
 
 pub find-row-spec : {M : Type 1} → statement M
 find-row-spec =
@@ -53,5 +53,5 @@ find-row-spec =
     returns-2
     add-push
     push-requires
-    add-result
+    add-t10
     returns-3)

@@ -6,20 +6,20 @@ use borrow.Author.Needs.{needs}
 use lib.ListN.{length}
 use Rattle.judging.specs.inner.Table.{rulesIn, rowsIn}
 use Rattle.judging.specs.inner.Rows.{RowsFound}
-use Rattle.judging.proofs.RowLaws.{Reading, reading-begun, rows-begun, whole-line, kind-low, read-kind, read-row, read-other, row-at, read-all, tried-all, tried-over}
+use Rattle.judging.proofs.RowLaws.{Reading, reading-begun, rows-begun, whole-line, kind-low, read-kind, read-row, read-other, row-at, read-all, tried-all}
 use Rattle.judging.proofs.search.find_rows.Statement.{statement}
 use Rattle.judging.proofs.search.find_rows.Tie as tie
 
 abbrev Inv-loop : tie.InvT-loop
-Inv-loop lines shapes₀ index₀ parents₀ makers₀ headers₀ widths₀ count₀ row₀ n₀ shapes index parents makers headers widths count row n =
-    Reading lines widths row n × (count ≤ 512) × RowsFound (rulesIn lines) (rowsIn lines) shapes index parents makers headers count row
+Inv-loop lines shapes₀ index₀ ways₀ widths₀ count₀ row₀ n₀ shapes index ways widths count row n =
+    Reading lines widths row n × RowsFound (rulesIn lines) (rowsIn lines) shapes index ways count row
 
 abbrev μ-loop : tie.MeasureT-loop
-μ-loop lines shapes₀ index₀ parents₀ makers₀ headers₀ widths₀ count₀ row₀ n₀ shapes index parents makers headers widths count row n =
+μ-loop lines shapes₀ index₀ ways₀ widths₀ count₀ row₀ n₀ shapes index ways widths count row n =
     length lines - n
 
 loop-holds : tie.Need-loop-holds Inv-loop μ-loop
-loop-holds c = (reading-begun _, omega arith, rows-begun _ _ _ _ _ _ _ (c .before .pre .1) (c .before .pre .2) (c .before .pre .3) (c .before .pre .4) (c .before .pre .5))
+loop-holds c = (reading-begun _, rows-begun _ _ _ _ _ (c .before .pre .1) (c .before .pre .2) (c .before .pre .3))
 
 mul-loop : tie.Need-mul-loop Inv-loop μ-loop
 mul-loop c = search needs
@@ -76,13 +76,23 @@ cast-find-row : tie.Need-cast-find-row Inv-loop μ-loop
 cast-find-row c = let i = c .before .before .before .before in let r = row-at _ _ _ _ (i .before .before .before .pre .0) (i .before .loop .inv .0) (i .loop-test .taken) (c .if2 .taken) in search needs
 
 find-row-requires : tie.Need-find-row-requires Inv-loop μ-loop
-find-row-requires c κs = let i = c .before .before .before .before .before .before .before .before .before in let r = row-at _ _ _ _ (i .before .before .before .pre .0) (i .before .loop .inv .0) (i .loop-test .taken) (c .before .before .before .before .before .if2 .taken) in (r, i .before .loop .inv .2)
+find-row-requires c κs =
+    let i = c .before .before .before .before .before .before .before in
+    (row-at _ _ _ _ (i .before .before .before .pre .0) (i .before .loop .inv .0) (i .loop-test .taken) (c .before .before .before .if2 .taken), i .before .loop .inv .1)
+
+enum-known-found : tie.Need-enum-known-found Inv-loop μ-loop
+enum-known-found c = search needs
+
+enum-told : tie.Need-enum-told Inv-loop μ-loop
+enum-told c = search needs
 
 returns : tie.Need-returns Inv-loop μ-loop
-returns c = tried-over _ (c .before .find-row .ensures) (c .if3 .taken)
+returns c = rw (c .enum-told .given .1) at (c .before .before .find-row .ensures)
 
 add-row : tie.Need-add-row Inv-loop μ-loop
-add-row c = let i = c .before .before .before .before .before .before .before .before .before .before .before in let r = row-at _ _ _ _ (i .before .before .before .pre .0) (i .before .loop .inv .0) (i .loop-test .taken) (c .before .before .before .before .before .before .before .if2 .taken) in search needs
+add-row c =
+    let i = c .before .before .before .before .before .before .before .before .before .before .before in
+    let r = row-at _ _ _ _ (i .before .before .before .pre .0) (i .before .loop .inv .0) (i .loop-test .taken) (c .before .before .before .before .before .before .before .if2 .taken) in search needs
 
 add-n : tie.Need-add-n Inv-loop μ-loop
 add-n c = search needs
@@ -95,20 +105,20 @@ loop-again c =
     let i = c .before .before .before in
     let v = i .before .loop .inv in
     ⊎-elim
-    (λ w. rw (w .2, w .3, w .4, w .5, w .6, w .7, w .8, w .9) (read-kind _ _ _ _ (i .before .before .before .pre .0) (i .before .loop .inv .0) (i .loop-test .taken) (w .0 .taken), v .1, v .2))
+    (λ w. rw (w .2, w .3, w .4, w .5, w .6, w .7) (read-kind _ _ _ _ (i .before .before .before .pre .0) (i .before .loop .inv .0) (i .loop-test .taken) (w .0 .taken), v .1))
     (λ u.
     ⊎-elim
     (λ w.
-    rw (w .9, w .10, w .11, w .12, w .13, w .14, w .15, w .16)
-    (read-row _ _ _ _ (i .before .before .before .pre .0) (i .before .loop .inv .0) (i .loop-test .taken) (w .1 .taken), w .8 .left, w .7 .ensures .found (w .8 .left)))
-    (λ w. rw (w .2, w .3, w .4, w .5, w .6, w .7, w .8, w .9) (read-other _ _ _ _ (i .before .before .before .pre .0) (i .before .loop .inv .0) (i .loop-test .taken) (w .0 .left) (w .1 .left), v .1, v .2))
+    rw (w .9, w .10, w .11, w .12, w .13, w .14)
+    (read-row _ _ _ _ (i .before .before .before .pre .0) (i .before .loop .inv .0) (i .loop-test .taken) (w .1 .taken), rw (w .7 .given .1) at (w .5 .ensures)))
+    (λ w. rw (w .2, w .3, w .4, w .5, w .6, w .7) (read-other _ _ _ _ (i .before .before .before .pre .0) (i .before .loop .inv .0) (i .loop-test .taken) (w .0 .left) (w .1 .left), v .1))
     u)
     (c .if1 .came)
 
 returns-2 : tie.Need-returns-2 Inv-loop μ-loop
 returns-2 c =
     let v = c .before .loop .inv in
-    tried-all (v .2) (v .1) (read-all _ _ _ _ (c .before .before .before .pre .0) (v .0) (c .loop-test .left))
+    tried-all (v .1) (read-all _ _ _ _ (c .before .before .before .pre .0) (v .0) (c .loop-test .left))
 
 pub find-rows-spec : {M : Type 1} → statement M
 find-rows-spec =
@@ -136,6 +146,8 @@ find-rows-spec =
     array-read-find-row
     cast-find-row
     find-row-requires
+    enum-known-found
+    enum-told
     returns
     add-row
     add-n

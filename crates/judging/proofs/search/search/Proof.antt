@@ -23,41 +23,47 @@ looked-up : (t : List ℕ) (n : ℕ) {d : List ℕ} → d ≡ digitsIn t n → t
 looked-up t n e p = e ∙ ap (λ u. digitsIn u n) p ∙ table-rows n
 
 abbrev Inv-loop2 : tie.InvT-loop2
-Inv-loop2 lines table rules kinds shapes₀ index₀ parents₀ makers₀ headers₀ firings₀ targets₀ starts fired count₀ full₀ patterns k₀ s shape kind digits r heads h₀ shapes index parents makers headers firings targets count full k h =
-    (full ≡ false) × Heading (rulesIn lines) (rowsIn lines) table digits rules shape kind s r heads h shapes index parents makers headers fired count
-    × Noting (length firings₀) table rules shapes index firings targets starts s k r h
+Inv-loop2 lines table rules kinds shapes₀ index₀ ways₀ notes₀ starts fired full₀ rows count₀ patterns k₀ s shape kind digits r heads h₀ shapes index ways notes full count k h =
+    (full ≡ false) × Heading (rulesIn lines) (rowsIn lines) table digits rules shape kind s r heads h shapes index ways fired count
+    × Noting (length notes₀) table rules shapes index notes starts s k r h
 
 abbrev μ-loop2 : tie.MeasureT-loop2
-μ-loop2 lines table rules kinds shapes₀ index₀ parents₀ makers₀ headers₀ firings₀ targets₀ starts fired count₀ full₀ patterns k₀ s shape kind digits r heads h₀ shapes index parents makers headers firings targets count full k h =
+μ-loop2 lines table rules kinds shapes₀ index₀ ways₀ notes₀ starts fired full₀ rows count₀ patterns k₀ s shape kind digits r heads h₀ shapes index ways notes full count k h =
     heads - h
 
 abbrev Inv-loop : tie.InvT-loop
-Inv-loop lines table rules kinds shapes₀ index₀ parents₀ makers₀ headers₀ firings₀ targets₀ starts fired₀ count₀ full₀ patterns k₀ s shape kind digits r₀ shapes index parents makers headers firings targets fired count full k r =
+Inv-loop lines table rules kinds shapes₀ index₀ ways₀ notes₀ starts fired₀ full₀ rows count₀ patterns k₀ s shape kind digits r₀ shapes index ways notes fired full count k r =
     (full ≡ false) × (r < rules → FiresOn (ruleIn (rowBytes table r)) kind digits true)
-    × Ruling (rulesIn lines) (rowsIn lines) table digits rules shape kind s r shapes index parents makers headers fired count
-    × Noting (length firings₀) table rules shapes index firings targets starts s k r 0
+    × Ruling (rulesIn lines) (rowsIn lines) table digits rules shape kind s r shapes index ways fired count
+    × Noting (length notes₀) table rules shapes index notes starts s k r 0
 
 abbrev μ-loop : tie.MeasureT-loop
-μ-loop lines table rules kinds shapes₀ index₀ parents₀ makers₀ headers₀ firings₀ targets₀ starts fired₀ count₀ full₀ patterns k₀ s shape kind digits r₀ shapes index parents makers headers firings targets fired count full k r =
+μ-loop lines table rules kinds shapes₀ index₀ ways₀ notes₀ starts fired₀ full₀ rows count₀ patterns k₀ s shape kind digits r₀ shapes index ways notes fired full count k r =
     rules - r
 
 abbrev Inv-search : tie.InvT-search
-Inv-search lines table rules kinds shapes₀ index₀ parents₀ makers₀ headers₀ firings₀ targets₀ starts₀ fired₀ count₀ full₀ patterns k₀ s₀ shapes index parents makers headers firings targets starts fired count full k s =
+Inv-search lines table rules kinds shapes₀ index₀ ways₀ notes₀ starts₀ fired₀ full₀ rows count₀ patterns k₀ s₀ shapes index ways notes starts fired full count k s =
     (full ≡ false) × (s ≤ count) × Ruled (rulesIn lines) table rules
-    × Doing (rulesIn lines) (rowsIn lines) shapes index parents makers headers fired count (turn s 0 0) (256 * s)
-    × Noting (length firings₀) table rules shapes index firings targets starts s k 0 0
+    × Doing (rulesIn lines) (rowsIn lines) shapes index ways fired count (turn s 0 0) (256 * s)
+    × Noting (length notes₀) table rules shapes index notes starts s k 0 0
 
 abbrev μ-search : tie.MeasureT-search
-μ-search lines table rules kinds shapes₀ index₀ parents₀ makers₀ headers₀ firings₀ targets₀ starts₀ fired₀ count₀ full₀ patterns k₀ s₀ shapes index parents makers headers firings targets starts fired count full k s =
+μ-search lines table rules kinds shapes₀ index₀ ways₀ notes₀ starts₀ fired₀ full₀ rows count₀ patterns k₀ s₀ shapes index ways notes starts fired full count k s =
     512 - s
 
 find-rows-requires :
     tie.Need-find-rows-requires Inv-loop2 μ-loop2 Inv-loop μ-loop Inv-search μ-search
 find-rows-requires c κs = search needs
 
+enum-known-rows : tie.Need-enum-known-rows Inv-loop2 μ-loop2 Inv-loop μ-loop Inv-search μ-search
+enum-known-rows c = search needs
+
+enum-told : tie.Need-enum-told Inv-loop2 μ-loop2 Inv-loop μ-loop Inv-search μ-search
+enum-told c = search needs
+
 returns : tie.Need-returns Inv-loop2 μ-loop2 Inv-loop μ-loop Inv-search μ-search
 returns c = (
-  record { all = λ e. let z : _≡_ {A = ℕ} 0 1 = cc e in let y : ⊥ = omega arith in absurd y; more = λ _. c .before .find-rows .ensures .more (c .if1 .taken) },
+  record { all = λ e. let z : _≡_ {A = ℕ} 0 1 = cc e in let y : ⊥ = omega arith in absurd y; more = λ _. rw (c .enum-told .given .1) at (c .before .before .find-rows .ensures) },
   λ e. let z : _≡_ {A = ℕ} 0 1 = cc e in let y : ⊥ = omega arith in absurd y,
 )
 
@@ -71,12 +77,12 @@ element-write-starts c = search needs
 
 search-holds : tie.Need-search-holds Inv-loop2 μ-loop2 Inv-loop μ-loop Inv-search μ-search
 search-holds c =
-    let s = c .before .before .before .before .before .before .before .before .before .before .before in (
+    let s = c .before .before .before .before .before .before .before .before .before in (
       refl,
       omega arith,
       record { fits = s .pre .1; are = s .pre .2 },
-      doing-begun (zeros 256) (c .before .before .find-rows .ensures .found (c .before .if1 .left)) (record { size = refl; zeros = zero-at 256 }),
-      noting-begun (s .args .starts .now) refl (s .pre .10) (s .pre .11),
+      doing-begun (zeros 256) (rw (c .before .before .rows .given .1) at (c .before .before .before .before .find-rows .ensures)) (record { size = refl; zeros = zero-at 256 }),
+      noting-begun (s .args .starts .now) refl (s .pre .8),
     )
 
 mul-shape : tie.Need-mul-shape Inv-loop2 μ-loop2 Inv-loop μ-loop Inv-search μ-search
@@ -110,7 +116,7 @@ next-fire-requires c κs =
     let d = looked-up _ _ (c .digits-in .ensures) (c .before .before .before .before .before .pattern-table .ensures) in
     let x = ruling-first _ _ _ (i .2) (i .3) refl (c .before .before .before .search-test .taken) refl d in
     let b = i .3 .kept .small _ (c .before .before .before .search-test .taken) in
-    (i .2 .fits, c .before .before .before .before .before .before .before .before .before .before .before .before .before .before .before .before .pre .8, first-place _ (omega arith), x .on .digits-fit)
+    (i .2 .fits, c .before .before .before .before .before .before .before .before .before .before .before .before .before .before .pre .6, first-place _ (omega arith), x .on .digits-fit)
 
 loop-holds : tie.Need-loop-holds Inv-loop2 μ-loop2 Inv-loop μ-loop Inv-search μ-search
 loop-holds c =
@@ -119,7 +125,7 @@ loop-holds c =
     let f = fire-from 0 (omega arith) (c .next-fire .ensures) in
     let d = looked-up _ _ (c .before .digits-in .ensures) (c .before .before .before .before .before .before .pattern-table .ensures) in
     let x = ruling-first _ _ _ (i .2) (i .3) refl (c .before .before .before .before .search-test .taken) refl d in
-    (i .0, f .fires, ruling-next x f, noting-next (noting-room (sym (i .4 .size-firings)) (i .4)) (x .on) (x .here) f)
+    (i .0, f .fires, ruling-next x f, noting-next (noting-room (sym (i .4 .size-notes)) (i .4)) (x .on) (x .here) f)
 
 array-write-fired :
     tie.Need-array-write-fired Inv-loop2 μ-loop2 Inv-loop μ-loop Inv-search μ-search
@@ -133,17 +139,17 @@ loop2-holds : tie.Need-loop2-holds Inv-loop2 μ-loop2 Inv-loop μ-loop Inv-searc
 loop2-holds c =
     let i = c .before .before .loop .inv in
     let l = c .before .loop-test .taken in
-    (i .0, ruling-fires (i .2) _ (i .1 l) l (c .rule-byte .ensures .0), noting-room (sym (i .3 .size-firings)) (i .3))
+    (i .0, ruling-fires (i .2) _ (i .1 l) l (c .rule-byte .ensures .0), noting-room (sym (i .3 .size-notes)) (i .3))
 
 made-requires : tie.Need-made-requires Inv-loop2 μ-loop2 Inv-loop μ-loop Inv-search μ-search
 made-requires c κs = let x = c .before .loop2 .inv .1 in (x .ruled .fits, x .r-low, heading-below x (c .loop2-test .taken), x .on .digits-fit)
 
-mul-if2 : tie.Need-mul-if2 Inv-loop2 μ-loop2 Inv-loop μ-loop Inv-search μ-search
-mul-if2 c = search needs
+mul-if1 : tie.Need-mul-if1 Inv-loop2 μ-loop2 Inv-loop μ-loop Inv-search μ-search
+mul-if1 c = search needs
 
-element-copy-out-if2 :
-    tie.Need-element-copy-out-if2 Inv-loop2 μ-loop2 Inv-loop μ-loop Inv-search μ-search
-element-copy-out-if2 c = search needs
+element-copy-out-if1 :
+    tie.Need-element-copy-out-if1 Inv-loop2 μ-loop2 Inv-loop μ-loop Inv-search μ-search
+element-copy-out-if1 c = search needs
 
 add-push : tie.Need-add-push Inv-loop2 μ-loop2 Inv-loop μ-loop Inv-search μ-search
 add-push c = search needs
@@ -178,7 +184,7 @@ element-copy-out-note c = search needs
 
 note-requires : tie.Need-note-requires Inv-loop2 μ-loop2 Inv-loop μ-loop Inv-search μ-search
 note-requires c κs =
-    let j = c .before .before .before in
+    let j = c .before .before in
     let i = j .before .before .before .before .loop2 .inv in
     let x = i .1 in
     let is = j .before .before .made .ensures in
@@ -186,9 +192,8 @@ note-requires c κs =
     let low = x .r-low in
     let four = heading-four x in
     let up = x .h-low in (
-      i .2 .size-targets ∙ sym (i .2 .size-firings),
       omega arith,
-      ⊎-elim (λ w. new-there x _ is (w .9 ∙ w .7 .ensures .1)) (λ w. seen-there x _ is (w .0 .left) (w .2)) (j .if2 .came),
+      ⊎-elim (λ w. new-there x _ is (w .7 ∙ w .5 .ensures .1)) (λ w. seen-there x _ is (w .0 .left) (w .2)) (j .if1 .came),
     )
 
 add-k : tie.Need-add-k Inv-loop2 μ-loop2 Inv-loop μ-loop Inv-search μ-search
@@ -202,23 +207,22 @@ loop2-less c = search needs
 
 loop2-again : tie.Need-loop2-again Inv-loop2 μ-loop2 Inv-loop μ-loop Inv-search μ-search
 loop2-again c =
-    let j = c .before .before .before .before .before .before .before .before in
+    let j = c .before .before .before .before in
     let i = j .before .before .before .before .loop2 .inv in
     let m = j .before .before .made in
     let t = j .before .before .before .loop2-test .taken in
-    let note = c .before .before .before .before .note .ensures in (
+    let note = c .before .note .ensures in (
       i .0,
       ⊎-elim
           (λ w.
-          let p = w .7 .ensures in
-          heading-same (heading-push (i .1) _ (m .ensures) t (w .1 .left) (w .0 .taken)) _ _ _ _ _ _ (w .8 ∙ p .0) (w .9 ∙ p .1) (w .10 ∙ p .2) (w .11 ∙ p .3)
-          (w .12 ∙ p .4) (w .13))
-          (λ w. heading-same (heading-seen (i .1) _ (m .ensures) t (w .0 .left)) _ _ _ _ _ _ (w .1) (w .2) (w .3) (w .4) (w .5) (w .6))
-          (j .if2 .came),
+          let p = w .5 .ensures in
+          heading-same (heading-push (i .1) _ (m .ensures) t (w .1 .left) (w .0 .taken)) _ _ _ _ (w .6 ∙ p .0) (w .7 ∙ p .1) (w .8 ∙ p .2) (w .9))
+          (λ w. heading-same (heading-seen (i .1) _ (m .ensures) t (w .0 .left)) _ _ _ _ (w .1) (w .2) (w .3) (w .4))
+          (j .if1 .came),
       ⊎-elim
-          (λ w. noting-new (i .1) (i .2) _ (m .ensures) t (note .0) (note .1) (w .1 .left) (w .0 .taken) (w .8 ∙ w .7 .ensures .0) (w .9 ∙ w .7 .ensures .1))
-          (λ w. noting-seen (i .1) (i .2) _ (m .ensures) t (note .0) (note .1) (w .0 .left) (w .1) (w .2))
-          (j .if2 .came),
+          (λ w. noting-new (i .1) (i .2) _ (m .ensures) t note (w .1 .left) (w .0 .taken) (w .6 ∙ w .5 .ensures .0) (w .7 ∙ w .5 .ensures .1))
+          (λ w. noting-seen (i .1) (i .2) _ (m .ensures) t note (w .0 .left) (w .1) (w .2))
+          (j .if1 .came),
     )
 
 add-next-fire : tie.Need-add-next-fire Inv-loop2 μ-loop2 Inv-loop μ-loop Inv-search μ-search
@@ -228,7 +232,7 @@ next-fire-requires-2 :
     tie.Need-next-fire-requires-2 Inv-loop2 μ-loop2 Inv-loop μ-loop Inv-search μ-search
 next-fire-requires-2 c κs =
     let x = c .before .loop2 .inv .1 in
-    (x .ruled .fits, c .before .before .before .before .before .before .before .before .before .before .before .before .before .before .before .before .before .before .before .before .before .before .pre .8, fired-place _ _ (x .on .kind-is) (x .applies) (x .r-low), x .on .digits-fit)
+    (x .ruled .fits, c .before .before .before .before .before .before .before .before .before .before .before .before .before .before .before .before .before .before .before .before .pre .6, fired-place _ _ (x .on .kind-is) (x .applies) (x .r-low), x .on .digits-fit)
 
 loop-less : tie.Need-loop-less Inv-loop2 μ-loop2 Inv-loop μ-loop Inv-search μ-search
 loop-less c =
@@ -243,7 +247,7 @@ loop-again c =
     let y = heading-last x (c .before .loop2-test .left) in
     let are = x .heads-are in
     let up = x .h-low in
-    (i .0, f .fires, ruling-next y f, noting-next (noting-rule (noting-room (c .before .before .before .before .before .loop .inv .3 .size-firings) (i .2)) (let left = c .before .loop2-test .left in omega arith) (omega (arith, heading-four x))) (x .on) (x .here) f)
+    (i .0, f .fires, ruling-next y f, noting-next (noting-rule (noting-room (c .before .before .before .before .before .loop .inv .3 .size-notes) (i .2)) (let left = c .before .loop2-test .left in omega arith) (omega (arith, heading-four x))) (x .on) (x .here) f)
 
 cast-starts : tie.Need-cast-starts Inv-loop2 μ-loop2 Inv-loop μ-loop Inv-search μ-search
 cast-starts c = search needs
@@ -269,13 +273,10 @@ search-again c =
     let i = c .before .loop .inv in
     let l = i .2 .s-low in
     let few = i .2 .doing .kept .few in
-    (i .0, omega arith, i .2 .ruled, ruling-last (i .2) (c .loop-test .left), noting-shape (noting-room (c .before .before .before .before .before .before .before .search .inv .4 .size-firings) (i .3)) (i .2 .r-low) (c .loop-test .left) (i .2 .ruled .fits .few) (omega arith))
+    (i .0, omega arith, i .2 .ruled, ruling-last (i .2) (c .loop-test .left), noting-shape (noting-room (c .before .before .before .before .before .before .before .search .inv .4 .size-notes) (i .3)) (i .2 .r-low) (c .loop-test .left) (i .2 .ruled .fits .few) (omega arith))
 
 same-length : tie.Need-same-length Inv-loop2 μ-loop2 Inv-loop μ-loop Inv-search μ-search
-same-length c = c .before .search .inv .4 .size-firings
-
-same-length-2 : tie.Need-same-length-2 Inv-loop2 μ-loop2 Inv-loop μ-loop Inv-search μ-search
-same-length-2 c = c .before .search .inv .4 .size-targets ∙ sym (c .before .before .before .before .before .before .before .before .before .before .before .before .before .pre .10)
+same-length c = c .before .search .inv .4 .size-notes
 
 returns-2 : tie.Need-returns-2 Inv-loop2 μ-loop2 Inv-loop μ-loop Inv-search μ-search
 returns-2 c =
@@ -284,24 +285,19 @@ returns-2 c =
         all = λ _. try-all (i .2) _ (c .search-test .left) (i .3);
         more = λ e. let z : _≡_ {A = ℕ} 0 1 = cc (i .0, e) in let y : ⊥ = omega arith in absurd y;
       },
-      λ _. noting-all (i .4) (c .search-test .left) (c .before .before .before .before .before .before .before .before .before .before .before .before .before .pre .9),
+      λ _. noting-all (i .4) (c .search-test .left) (c .before .before .before .before .before .before .before .before .before .before .before .pre .7),
     )
 
-same-length-3 : tie.Need-same-length-3 Inv-loop2 μ-loop2 Inv-loop μ-loop Inv-search μ-search
-same-length-3 c =
-    c .before .before .before .before .before .loop2 .inv .2 .size-firings ∙ c .before .before .before .before .before .before .before .before .loop .inv .3 .size-firings ∙ c .before .before .before .before .before .before .before .before .before .before .before .before .before .before .search .inv .4 .size-firings
-
-same-length-4 : tie.Need-same-length-4 Inv-loop2 μ-loop2 Inv-loop μ-loop Inv-search μ-search
-same-length-4 c =
-    c .before .before .before .before .before .loop2 .inv .2 .size-targets ∙ c .before .before .before .before .before .before .before .before .loop .inv .3 .size-firings ∙ c .before .before .before .before .before .before .before .before .before .before .before .before .before .before .search .inv .4 .size-firings
-    ∙ sym (c .before .before .before .before .before .before .before .before .before .before .before .before .before .before .before .before .before .before .before .before .before .before .before .before .before .before .pre .10)
+same-length-2 : tie.Need-same-length-2 Inv-loop2 μ-loop2 Inv-loop μ-loop Inv-search μ-search
+same-length-2 c =
+    c .before .before .before .before .before .loop2 .inv .2 .size-notes ∙ c .before .before .before .before .before .before .before .before .loop .inv .3 .size-notes ∙ c .before .before .before .before .before .before .before .before .before .before .before .before .before .before .search .inv .4 .size-notes
 
 returns-3 : tie.Need-returns-3 Inv-loop2 μ-loop2 Inv-loop μ-loop Inv-search μ-search
 returns-3 c =
     let i = c .before .before .before .before .before .loop2 .inv in (
       record {
         all = λ e. let z : _≡_ {A = ℕ} 0 1 = cc e in let y : ⊥ = omega arith in absurd y;
-        more = λ _. heading-more (i .1) _ (c .before .before .before .made .ensures) (c .before .before .before .before .loop2-test .taken) (c .if3 .taken) (c .before .if2 .taken);
+        more = λ _. heading-more (i .1) _ (c .before .before .before .made .ensures) (c .before .before .before .before .loop2-test .taken) (c .if2 .taken) (c .before .if1 .taken);
       },
       λ e. let z : _≡_ {A = ℕ} 0 1 = cc e in let y : ⊥ = omega arith in absurd y,
     )
@@ -317,6 +313,8 @@ search-spec =
     Inv-search
     μ-search
     find-rows-requires
+    enum-known-rows
+    enum-told
     returns
     pattern-table-requires
     element-write-starts
@@ -334,8 +332,8 @@ search-spec =
     rule-byte-requires
     loop2-holds
     made-requires
-    mul-if2
-    element-copy-out-if2
+    mul-if1
+    element-copy-out-if1
     add-push
     add-push-2
     add-push-3
@@ -363,8 +361,6 @@ search-spec =
     search-less
     search-again
     same-length
-    same-length-2
     returns-2
-    same-length-3
-    same-length-4
+    same-length-2
     returns-3)

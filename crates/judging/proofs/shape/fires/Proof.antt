@@ -6,7 +6,8 @@ use native.Mathlib.Omega.{arith}
 use borrow.Author.Needs.{needs}
 use lib.ListN.{length, getD}
 use Rattle.judging.specs.inner.Table.{ruleIn, rowBytes}
-use Rattle.judging.proofs.RuleLaws.{firstField, RowFits, row-fits, Width, Mark, width-read, mark-read, place-few, place-some, place-field, SameTo, same-none, same-more, other-kind, fewer-fields, more-fields, unequal-fields, equal-fields}
+use Rattle.judging.proofs.Sources.{firstField}
+use Rattle.judging.proofs.RuleLaws.{RowFits, row-fits, Width, Mark, width-read, mark-read, place-few, place-some, place-field, SameTo, same-none, same-more, other-kind, fewer-fields, more-fields, unequal-fields, equal-fields}
 use Rattle.judging.proofs.shape.fires.Statement.{statement}
 use Rattle.judging.proofs.shape.fires.Tie as tie
 

@@ -34,16 +34,16 @@ returns c =
     fresh-number (row b) (b .args .t5) (b .args .mark) (b .pre .2) (c .before .before .rule-byte .result) (c .rule-byte2 .result)
     (c .before .before .rule-byte .ensures .0) (c .before .if1 .taken) (c .rule-byte2 .ensures .0)
 
-sub-wide : tie.Need-sub-wide
-sub-wide c = search needs
+sub-of-u8 : tie.Need-sub-of-u8
+sub-of-u8 c = search needs
 
-array-read-wide : tie.Need-array-read-wide
-array-read-wide c =
+array-read-of-u8 : tie.Need-array-read-of-u8
+array-read-of-u8 c =
     let b = c .before .before in
     omega (arith, place-few (row b) (b .args .mark) (c .before .rule-byte .result) (b .pre .2) (c .before .rule-byte .ensures .0))
 
-wide-requires : tie.Need-wide-requires
-wide-requires c κs = search needs
+of-u8-requires : tie.Need-of-u8-requires
+of-u8-requires c κs = search needs
 
 cast-result-2 : tie.Need-cast-result-2
 cast-result-2 c = search needs
@@ -51,7 +51,7 @@ cast-result-2 c = search needs
 returns-2 : tie.Need-returns-2
 returns-2 c =
     let b = c .before .before .before in
-    c .wide .ensures .0
+    c .of-u8 .ensures .0
     ∙ carried-number (row b) (b .args .t5) (b .args .mark) (b .pre .2) (c .before .before .rule-byte .result)
     (c .before .before .rule-byte .ensures .0) (c .before .if1 .left)
 
@@ -66,8 +66,8 @@ made-number-spec =
     add-result-2
     cast-result
     returns
-    sub-wide
-    array-read-wide
-    wide-requires
+    sub-of-u8
+    array-read-of-u8
+    of-u8-requires
     cast-result-2
     returns-2)

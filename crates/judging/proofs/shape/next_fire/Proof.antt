@@ -14,19 +14,19 @@ Inv-loop table rules kinds p kind digits q₀ q = Passed table rules (p - 64) ki
 abbrev μ-loop : tie.MeasureT-loop
 μ-loop table rules kinds p kind digits q₀ q = rules - q
 
-mul-wide-rule : tie.Need-mul-wide-rule Inv-loop μ-loop
-mul-wide-rule c = let l = place-low (c .pre .2) (c .pre .0 .few) in omega arith
+mul-of-u16 : tie.Need-mul-of-u16 Inv-loop μ-loop
+mul-of-u16 c = let l = place-low (c .pre .2) (c .pre .0 .few) in omega arith
 
-element-copy-out-wide-rule : tie.Need-element-copy-out-wide-rule Inv-loop μ-loop
-element-copy-out-wide-rule c = let l = place-low (c .pre .2) (c .pre .0 .few) in omega arith
+element-copy-out-of-u16 : tie.Need-element-copy-out-of-u16 Inv-loop μ-loop
+element-copy-out-of-u16 c = let l = place-low (c .pre .2) (c .pre .0 .few) in omega arith
 
-wide-rule-requires : tie.Need-wide-rule-requires Inv-loop μ-loop
-wide-rule-requires c κs = search needs
+of-u16-requires : tie.Need-of-u16-requires Inv-loop μ-loop
+of-u16-requires c κs = search needs
 
 loop-holds : tie.Need-loop-holds Inv-loop μ-loop
 loop-holds c =
     let s = c .before .before in
-    passed-first (s .pre .0) (subst (NextOf (s .args .table .now) (s .args .rules) (s .args .p - 64) (s .args .kind)) (sym (c .wide-rule .ensures)) (place-next (s .pre .1) (s .pre .2)))
+    passed-first (s .pre .0) (subst (NextOf (s .args .table .now) (s .args .rules) (s .args .p - 64) (s .args .kind)) (sym (c .of-u16 .ensures)) (place-next (s .pre .1) (s .pre .2)))
 
 fires-requires : tie.Need-fires-requires Inv-loop μ-loop
 fires-requires c κs =
@@ -37,27 +37,27 @@ returns c =
     let i = c .before .before .before .loop .inv in
     record { begun = i .begun; within = i .within; still = i .still; fires = λ l. rw (c .if1 .taken) at (c .before .fires .ensures) }
 
-add-wide-rule : tie.Need-add-wide-rule Inv-loop μ-loop
-add-wide-rule c = search needs
+add-of-u16 : tie.Need-add-of-u16 Inv-loop μ-loop
+add-of-u16 c = search needs
 
-mul-wide-rule-2 : tie.Need-mul-wide-rule-2 Inv-loop μ-loop
-mul-wide-rule-2 c = search needs
+mul-of-u16-2 : tie.Need-mul-of-u16-2 Inv-loop μ-loop
+mul-of-u16-2 c = search needs
 
-element-copy-out-wide-rule-2 : tie.Need-element-copy-out-wide-rule-2 Inv-loop μ-loop
-element-copy-out-wide-rule-2 c = search needs
+element-copy-out-of-u16-2 : tie.Need-element-copy-out-of-u16-2 Inv-loop μ-loop
+element-copy-out-of-u16-2 c = search needs
 
-wide-rule-requires-2 : tie.Need-wide-rule-requires-2 Inv-loop μ-loop
-wide-rule-requires-2 c κs = search needs
+of-u16-requires-2 : tie.Need-of-u16-requires-2 Inv-loop μ-loop
+of-u16-requires-2 c κs = search needs
 
 -- What is read is the next rule of the kind of rule `q`.
-next : (c : tie.After-wide-rule2 Inv-loop μ-loop)
+next : (c : tie.After-of-u162 Inv-loop μ-loop)
     → NextOf (c .before .before .before .before .before .before .before .before .args .table .now) (c .before .before .before .before .before .before .before .before .args .rules)
     (c .before .before .before .before .before .loop .q + 1)
-    (kindByte (c .before .before .before .before .before .before .before .before .args .table .now) (c .before .before .before .before .before .loop .q)) (c .wide-rule2 .result)
+    (kindByte (c .before .before .before .before .before .before .before .before .args .table .now) (c .before .before .before .before .before .loop .q)) (c .of-u162 .result)
 next c =
     let s = c .before .before .before .before .before .before .before .before in
     let q = c .before .before .before .before .before .loop .q in
-    subst (NextOf (s .args .table .now) (s .args .rules) (q + 1) (kindByte (s .args .table .now) q)) (sym (c .wide-rule2 .ensures))
+    subst (NextOf (s .args .table .now) (s .args .rules) (q + 1) (kindByte (s .args .table .now) q)) (sym (c .of-u162 .ensures))
     (s .pre .1 .next q (c .before .before .before .before .loop-test .taken))
 
 loop-less : tie.Need-loop-less Inv-loop μ-loop
@@ -82,16 +82,16 @@ next-fire-spec =
     (tie.spec
     Inv-loop
     μ-loop
-    mul-wide-rule
-    element-copy-out-wide-rule
-    wide-rule-requires
+    mul-of-u16
+    element-copy-out-of-u16
+    of-u16-requires
     loop-holds
     fires-requires
     returns
-    add-wide-rule
-    mul-wide-rule-2
-    element-copy-out-wide-rule-2
-    wide-rule-requires-2
+    add-of-u16
+    mul-of-u16-2
+    element-copy-out-of-u16-2
+    of-u16-requires-2
     loop-less
     loop-again
     returns-2)

@@ -1,16 +1,20 @@
 -- `spread::back` meets its contract. Assumes nothing.
+use mathlib.Core.Path.{subst}
 use Prim.Native.Nat.{_-_}
+use native.Mathlib.Numerals.{add-one}
 use native.Mathlib.Omega.{arith}
 use borrow.Author.Needs.{needs}
+use Rattle.judging.specs.inner.Nodes.{fromOf}
+use Rattle.judging.specs.inner.Passes.{Walked}
 use Rattle.judging.proofs.WalkLaws.{Going, going, further, met, unmet}
 use Rattle.judging.proofs.spread.back.Statement.{statement}
 use Rattle.judging.proofs.spread.back.Tie as tie
 
 abbrev Inv-loop : tie.InvT-loop
-Inv-loop n generations from x y₀ k₀ y k = Going n generations from x y k
+Inv-loop n generations raises x y₀ k₀ y k = Going n generations (fromOf raises) x y k
 
 abbrev μ-loop : tie.MeasureT-loop
-μ-loop n generations from x y₀ k₀ y k = n - k
+μ-loop n generations raises x y₀ k₀ y k = n - k
 
 loop-holds : tie.Need-loop-holds Inv-loop μ-loop
 loop-holds c = going (c .pre)
@@ -24,8 +28,8 @@ returns c =
     let z = c .if1 .taken in
     met (c .before .before .before .before .pre) (c .before .before .before .loop .inv) (omega arith) (omega arith)
 
-number-requires-2 : tie.Need-number-requires-2 Inv-loop μ-loop
-number-requires-2 c κs = (c .before .before .before .before .pre .grid-from, omega arith)
+from-of-requires : tie.Need-from-of-requires Inv-loop μ-loop
+from-of-requires c κs = omega arith
 
 cast-y : tie.Need-cast-y Inv-loop μ-loop
 cast-y c = search needs
@@ -40,13 +44,10 @@ loop-again : tie.Need-loop-again Inv-loop μ-loop
 loop-again c =
     let e = c .before .before .number .ensures in
     let d = c .before .if1 .left in
-    further (c .before .before .before .before .before .pre) (c .before .before .before .before .loop .inv) (c .number2 .result) (omega arith) (λ z. d (omega arith)) (c .number2 .ensures)
-
-add-result : tie.Need-add-result Inv-loop μ-loop
-add-result c = search needs
+    further (c .before .before .before .before .before .pre) (c .before .before .before .before .loop .inv) (c .from-of .result) (omega arith) (λ z. d (omega arith)) (c .from-of .ensures)
 
 returns-2 : tie.Need-returns-2 Inv-loop μ-loop
-returns-2 c = unmet (c .before .before .pre) (c .before .loop .inv) (c .loop-test .left)
+returns-2 c = subst (Walked _ _ _ _) (add-one _) (unmet (c .before .before .pre) (c .before .loop .inv) (c .loop-test .left))
 
 pub back-spec : {M : Type 1} → statement M
 back-spec =
@@ -57,10 +58,9 @@ back-spec =
     loop-holds
     number-requires
     returns
-    number-requires-2
+    from-of-requires
     cast-y
     add-k
     loop-less
     loop-again
-    add-result
     returns-2)

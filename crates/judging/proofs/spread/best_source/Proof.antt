@@ -36,7 +36,7 @@ loop-again : tie.Need-loop-again Inv-loop μ-loop
 loop-again c =
     let b = c .before .before .before .rule-byte .ensures .0 in
     let i = c .before .before .before .before .before .loop .inv in
-    (omega arith, among-new (i .1) (omega arith) (omega arith) (sym b ∙ c .before .before .if1 .taken) (c .before .field .ensures) (c .if2 .taken))
+    (omega arith, among-new _ (i .1) (omega arith) (omega arith) (sym b ∙ c .before .before .if1 .taken) (c .before .field .ensures) (c .if2 .taken))
 
 loop-less-2 : tie.Need-loop-less-2 Inv-loop μ-loop
 loop-less-2 c = search needs
@@ -46,7 +46,7 @@ loop-again-2 c =
     let i = c .before .before .before .before .before .loop .inv in
     let e = c .before .field .ensures in
     let l = c .if2 .left in
-    (omega arith, among-same (i .1) (omega arith) (λ z. omega arith))
+    (omega arith, among-same _ (i .1) (omega arith) (λ z. omega arith))
 
 loop-less-3 : tie.Need-loop-less-3 Inv-loop μ-loop
 loop-less-3 c = search needs
@@ -55,7 +55,7 @@ loop-again-3 : tie.Need-loop-again-3 Inv-loop μ-loop
 loop-again-3 c =
     let b = c .before .rule-byte .ensures .0 in
     let i = c .before .before .before .loop .inv in
-    (omega arith, among-same (i .1) (omega arith) (λ z. absurd (c .if1 .left (b ∙ z))))
+    (omega arith, among-same _ (i .1) (omega arith) (λ z. absurd (c .if1 .left (b ∙ z))))
 
 returns : tie.Need-returns Inv-loop μ-loop
 returns c = among-best (c .before .loop .inv .1) (let l = c .loop-test .left in omega arith)

@@ -16,27 +16,27 @@ abbrev μ-loop : tie.MeasureT-loop
 loop-holds : tie.Need-loop-holds Inv-loop μ-loop
 loop-holds c = let s = c .before .pre in placing-none _ _ _ (s .5) (s .4)
 
-mul-wide : tie.Need-mul-wide Inv-loop μ-loop
-mul-wide c = search needs
+mul-of-u32 : tie.Need-mul-of-u32 Inv-loop μ-loop
+mul-of-u32 c = search needs
 
-add-wide : tie.Need-add-wide Inv-loop μ-loop
-add-wide c = search needs
+add-of-u32 : tie.Need-add-of-u32 Inv-loop μ-loop
+add-of-u32 c = search needs
 
-add-wide-2 : tie.Need-add-wide-2 Inv-loop μ-loop
-add-wide-2 c = search needs
+add-of-u32-2 : tie.Need-add-of-u32-2 Inv-loop μ-loop
+add-of-u32-2 c = search needs
 
-mul-wide-2 : tie.Need-mul-wide-2 Inv-loop μ-loop
-mul-wide-2 c = search needs
+mul-of-u32-2 : tie.Need-mul-of-u32-2 Inv-loop μ-loop
+mul-of-u32-2 c = search needs
 
-shared-slice-read-wide : tie.Need-shared-slice-read-wide Inv-loop μ-loop
-shared-slice-read-wide c =
+shared-slice-read-of-u32 : tie.Need-shared-slice-read-of-u32 Inv-loop μ-loop
+shared-slice-read-of-u32 c =
     let s = c .before .before .before .before .pre in
     let few = s .3 .few in
     let most = c .before .before .loop .inv .most in
     omega arith
 
-wide-requires : tie.Need-wide-requires Inv-loop μ-loop
-wide-requires c κs = search needs
+of-u32-requires : tie.Need-of-u32-requires Inv-loop μ-loop
+of-u32-requires c κs = search needs
 
 cast-table : tie.Need-cast-table Inv-loop μ-loop
 cast-table c =
@@ -52,14 +52,14 @@ add-table-2 c =
     let s = c .before .before .before .before .before in
     let l = c .before .before .before .loop in
     let few = mark-before-few (s .args .lines .now) (s .args .n) (l .i) (s .pre .3) (c .before .before .loop-test .taken) (l .inv .most) in
-    omega (arith, c .wide .ensures)
+    omega (arith, c .of-u32 .ensures)
 
 element-write-table : tie.Need-element-write-table Inv-loop μ-loop
 element-write-table c =
     let s = c .before .before .before .before .before in
     let l = c .before .before .before .loop in
     let few = mark-before-few (s .args .lines .now) (s .args .n) (l .i) (s .pre .3) (c .before .before .loop-test .taken) (l .inv .most) in
-    omega (arith, c .wide .ensures)
+    omega (arith, c .of-u32 .ensures)
 
 sub-i : tie.Need-sub-i Inv-loop μ-loop
 sub-i c = search needs
@@ -74,8 +74,8 @@ loop-again c =
     let few = mark-before-few (s .args .lines .now) (s .args .n) (l .i) (s .pre .3) (c .before .before .loop-test .taken) (l .inv .most) in
     let size = s .pre .0 in
     placing-more (l .inv) (c .before .before .loop-test .taken) (omega arith)
-    (c .wide .ensures ∙ mark-before (s .args .lines .now) (s .args .n) (l .i) (c .before .before .loop-test .taken) (l .inv .most))
-    (omega (arith, c .wide .ensures))
+    (c .of-u32 .ensures ∙ mark-before (s .args .lines .now) (s .args .n) (l .i) (c .before .before .loop-test .taken) (l .inv .most))
+    (omega (arith, c .of-u32 .ensures))
 
 returns : tie.Need-returns Inv-loop μ-loop
 returns c = placing-done (c .before .loop .inv) (c .loop-test .left)
@@ -87,12 +87,12 @@ put-places-spec =
     Inv-loop
     μ-loop
     loop-holds
-    mul-wide
-    add-wide
-    add-wide-2
-    mul-wide-2
-    shared-slice-read-wide
-    wide-requires
+    mul-of-u32
+    add-of-u32
+    add-of-u32-2
+    mul-of-u32-2
+    shared-slice-read-of-u32
+    of-u32-requires
     cast-table
     add-table
     add-table-2

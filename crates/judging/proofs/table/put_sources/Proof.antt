@@ -18,23 +18,23 @@ abbrev μ-loop : tie.MeasureT-loop
 loop-holds : tie.Need-loop-holds Inv-loop μ-loop
 loop-holds c = (omega arith, sourcing-none _ _ _)
 
-mul-wide : tie.Need-mul-wide Inv-loop μ-loop
-mul-wide c = search needs
+mul-of-u32 : tie.Need-mul-of-u32 Inv-loop μ-loop
+mul-of-u32 c = search needs
 
-add-wide : tie.Need-add-wide Inv-loop μ-loop
-add-wide c = search needs
+add-of-u32 : tie.Need-add-of-u32 Inv-loop μ-loop
+add-of-u32 c = search needs
 
-add-wide-2 : tie.Need-add-wide-2 Inv-loop μ-loop
-add-wide-2 c = search needs
+add-of-u32-2 : tie.Need-add-of-u32-2 Inv-loop μ-loop
+add-of-u32-2 c = search needs
 
-mul-wide-2 : tie.Need-mul-wide-2 Inv-loop μ-loop
-mul-wide-2 c = search needs
+mul-of-u32-2 : tie.Need-mul-of-u32-2 Inv-loop μ-loop
+mul-of-u32-2 c = search needs
 
-shared-slice-read-wide : tie.Need-shared-slice-read-wide Inv-loop μ-loop
-shared-slice-read-wide c = search needs
+shared-slice-read-of-u32 : tie.Need-shared-slice-read-of-u32 Inv-loop μ-loop
+shared-slice-read-of-u32 c = search needs
 
-wide-requires : tie.Need-wide-requires Inv-loop μ-loop
-wide-requires c κs = search needs
+of-u32-requires : tie.Need-of-u32-requires Inv-loop μ-loop
+of-u32-requires c κs = search needs
 
 put-source-requires : tie.Need-put-source-requires Inv-loop μ-loop
 put-source-requires c κs =
@@ -42,7 +42,7 @@ put-source-requires c κs =
     let l = c .before .before .before .before .loop in
     let all = s .pre .4 in
     let e = mark-there (s .args .lines .now) (s .args .n) (l .i) (omega arith) in
-    (l .inv .1 .put .whole ∙ s .pre .0, s .pre .1, omega (arith, c .before .wide .ensures, e, mark-few (s .pre .3) (l .i)), sourcing-places (l .inv .1) (s .pre .5))
+    (l .inv .1 .put .whole ∙ s .pre .0, s .pre .1, omega (arith, c .before .of-u32 .ensures, e, mark-few (s .pre .3) (l .i)), sourcing-places (l .inv .1) (s .pre .5))
 
 add-i : tie.Need-add-i Inv-loop μ-loop
 add-i c = search needs
@@ -56,7 +56,7 @@ loop-again c =
     let l = c .before .before .before .before .before .loop in
     let all = s .pre .4 in
     let e = mark-there (s .args .lines .now) (s .args .n) (l .i) (omega arith) in
-    (omega arith, sourcing-more (l .inv .1) (omega arith) (c .before .before .wide .ensures ∙ sym e) (omega (arith, c .before .before .wide .ensures, e, mark-few (s .pre .3) (l .i))) (c .put-source .ensures))
+    (omega arith, sourcing-more (l .inv .1) (omega arith) (c .before .before .of-u32 .ensures ∙ sym e) (omega (arith, c .before .before .of-u32 .ensures, e, mark-few (s .pre .3) (l .i))) (c .put-source .ensures))
 
 returns : tie.Need-returns Inv-loop μ-loop
 returns c =
@@ -71,12 +71,12 @@ put-sources-spec =
     Inv-loop
     μ-loop
     loop-holds
-    mul-wide
-    add-wide
-    add-wide-2
-    mul-wide-2
-    shared-slice-read-wide
-    wide-requires
+    mul-of-u32
+    add-of-u32
+    add-of-u32-2
+    mul-of-u32-2
+    shared-slice-read-of-u32
+    of-u32-requires
     put-source-requires
     add-i
     loop-less

@@ -6,10 +6,10 @@ use Rattle.judging.proofs.trail.way_length.Statement.{statement}
 use Rattle.judging.proofs.trail.way_length.Tie as tie
 
 abbrev Inv-loop : tie.InvT-loop
-Inv-loop parents count s x₀ k₀ x k = Counting parents count s x k
+Inv-loop ways count s x₀ k₀ x k = Counting ways count s x k
 
 abbrev μ-loop : tie.MeasureT-loop
-μ-loop parents count s x₀ k₀ x k = x
+μ-loop ways count s x₀ k₀ x k = x
 
 loop-holds : tie.Need-loop-holds Inv-loop μ-loop
 loop-holds c = counting _ _ _ (c .pre .1)
@@ -17,14 +17,20 @@ loop-holds c = counting _ _ _ (c .pre .1)
 mul-if1 : tie.Need-mul-if1 Inv-loop μ-loop
 mul-if1 c = search needs
 
-element-copy-out-if1 : tie.Need-element-copy-out-if1 Inv-loop μ-loop
-element-copy-out-if1 c = search needs
+index-1-if1 : tie.Need-index-1-if1 Inv-loop μ-loop
+index-1-if1 c = search needs
+
+index-2-if1 : tie.Need-index-2-if1 Inv-loop μ-loop
+index-2-if1 c = search needs
 
 mul-x : tie.Need-mul-x Inv-loop μ-loop
 mul-x c = search needs
 
-element-copy-out-x : tie.Need-element-copy-out-x Inv-loop μ-loop
-element-copy-out-x c = search needs
+index-1-x : tie.Need-index-1-x Inv-loop μ-loop
+index-1-x c = search needs
+
+index-2-x : tie.Need-index-2-x Inv-loop μ-loop
+index-2-x c = search needs
 
 cast-x : tie.Need-cast-x Inv-loop μ-loop
 cast-x c =
@@ -60,9 +66,11 @@ way-length-spec =
     μ-loop
     loop-holds
     mul-if1
-    element-copy-out-if1
+    index-1-if1
+    index-2-if1
     mul-x
-    element-copy-out-x
+    index-1-x
+    index-2-x
     cast-x
     sub-x
     add-k

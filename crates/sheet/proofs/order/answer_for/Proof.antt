@@ -4,16 +4,13 @@ use Rattle.sheet.proofs.order.answer_for.Statement.{statement}
 use Rattle.sheet.proofs.order.answer_for.Tie as tie
 
 returns : tie.Need-returns
-returns c = rw (ne-eqb _ 0 (c .if1 .taken))
+returns c = rw (eq-eqb _ 0 (c .if1 .taken))
 
 returns-2 : tie.Need-returns-2
-returns-2 c = rw (eq-eqb _ 0 (c .before .if1 .left), eq-eqb _ 0 (c .if2 .taken))
+returns-2 c = rw (ne-eqb _ 0 (c .before .if1 .left), c .if2 .taken)
 
 returns-3 : tie.Need-returns-3
-returns-3 c = rw (eq-eqb _ 0 (c .before .before .if1 .left), ne-eqb _ 0 (c .before .if2 .left), c .if3 .taken)
-
-returns-4 : tie.Need-returns-4
-returns-4 c = rw (eq-eqb _ 0 (c .before .before .if1 .left), ne-eqb _ 0 (c .before .if2 .left), c .if3 .left)
+returns-3 c = rw (ne-eqb _ 0 (c .before .if1 .left), c .if2 .left)
 
 pub answer-for-spec : {M : Type 1} → statement M
-answer-for-spec = tie.close (tie.spec returns returns-2 returns-3 returns-4)
+answer-for-spec = tie.close (tie.spec returns returns-2 returns-3)

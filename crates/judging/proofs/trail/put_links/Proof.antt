@@ -1,26 +1,27 @@
--- `trail::put_line` meets its contract: what is left to put, put before what stands, gives the whole line. Assumes nothing.
+-- `trail::put_links` meets its contract: what is left to put, put before what stands, gives the whole line. Assumes nothing.
 use borrow.Author.Needs.{needs}
+use Rattle.judging.specs.inner.Nodes.{fromOf, linkOf}
 use Rattle.judging.proofs.TrailLaws.{PuttingLine, putting-line, line-node, line-next, line-put}
-use Rattle.judging.proofs.trail.put_line.Statement.{statement}
-use Rattle.judging.proofs.trail.put_line.Tie as tie
+use Rattle.judging.proofs.trail.put_links.Statement.{statement}
+use Rattle.judging.proofs.trail.put_links.Tie as tie
 
 abbrev Inv-loop : tie.InvT-loop
-Inv-loop steps₀ first k from link x y₀ left₀ steps y left = PuttingLine steps₀ first k from link x steps y left
+Inv-loop steps₀ first k raises x y₀ left₀ steps y left = PuttingLine steps₀ first k (fromOf raises) (linkOf raises) x steps y left
 
 abbrev μ-loop : tie.MeasureT-loop
-μ-loop steps₀ first k from link x y₀ left₀ steps y left = left
+μ-loop steps₀ first k raises x y₀ left₀ steps y left = left
 
 loop-holds : tie.Need-loop-holds Inv-loop μ-loop
-loop-holds c = putting-line _ _ _ _ _ _ (c .before .pre .2) (c .before .pre .3)
+loop-holds c = putting-line _ _ _ _ _ _ (c .before .pre .0) (c .before .pre .1)
 
 sub-left : tie.Need-sub-left Inv-loop μ-loop
 sub-left c = search needs
 
-number-requires : tie.Need-number-requires Inv-loop μ-loop
-number-requires c κs = (c .before .before .before .pre .0, line-node (c .before .loop .inv))
+from-of-requires : tie.Need-from-of-requires Inv-loop μ-loop
+from-of-requires c κs = line-node (c .before .loop .inv)
 
-number-requires-2 : tie.Need-number-requires-2 Inv-loop μ-loop
-number-requires-2 c κs = (c .before .before .before .before .pre .1, line-node (c .before .before .loop .inv))
+link-of-requires : tie.Need-link-of-requires Inv-loop μ-loop
+link-of-requires c κs = line-node (c .before .before .loop .inv)
 
 add-put-step : tie.Need-add-put-step Inv-loop μ-loop
 add-put-step c = search needs
@@ -47,8 +48,8 @@ loop-again : tie.Need-loop-again Inv-loop μ-loop
 loop-again c =
     let second = c .before .before .before .before in
     let turn = second .before .before in
-    line-next (turn .before .loop .inv) (turn .loop-test .taken) (second .before .number .result) (second .number2 .result) (second .before .number .ensures)
-    (second .number2 .ensures) _ (c .before .before .put-step .ensures)
+    line-next (turn .before .loop .inv) (turn .loop-test .taken) (second .before .from-of .result) (second .link-of .result) (second .before .from-of .ensures)
+    (second .link-of .ensures) _ (c .before .before .put-step .ensures)
 
 same-length : tie.Need-same-length Inv-loop μ-loop
 same-length c = c .before .loop .inv .size
@@ -56,16 +57,16 @@ same-length c = c .before .loop .inv .size
 returns : tie.Need-returns Inv-loop μ-loop
 returns c = line-put (c .before .loop .inv) (c .loop-test .left)
 
-pub put-line-spec : {M : Type 1} → statement M
-put-line-spec =
+pub put-links-spec : {M : Type 1} → statement M
+put-links-spec =
     tie.close
     (tie.spec
     Inv-loop
     μ-loop
     loop-holds
     sub-left
-    number-requires
-    number-requires-2
+    from-of-requires
+    link-of-requires
     add-put-step
     add-put-step-2
     add-put-step-3
