@@ -50,7 +50,7 @@ put-links-requires c κs =
     let from = c .before .before .before .before .before .before .line-start .ensures in
     let short = c .before .before .before .before .before .way-length .ensures .short in
     let kept = c .before .before .before .put-way .kept .0 in
-    (line-stays (start .pre .3) (line .ensures) (omega arith), omega arith)
+    (λ j l. line-stays (start .pre .3) (line .ensures) (omega arith) j (omega arith), omega arith)
 
 add-t11 : tie.Need-add-t11
 add-t11 c = search needs
