@@ -49,7 +49,7 @@ kept-closed rules rows codes index ways count own kept whole =
           omega (arith, z, kept .placed (t .place) (t .below), ap (λ (d : ℕ). getD index d 0) c);
     }
 
-module _ (lines : List SheetLine) (codes index : List ℕ) (ways : List (List ℕ)) (fired : List ℕ) (count : ℕ) (generations from link : List (List ℕ)) (turning : ℕ)
+module _ (lines : List SheetLine) (codes index : List ℕ) (ways : List (List ℕ)) (fired : List ℕ) (count : ℕ) (generations : List (List ℕ)) (from link : ℕ → ℕ) (turning : ℕ)
     (f : Facts lines codes index ways fired count generations from link turning) where
   abbrev rules : List Rule
   rules = rulesOf lines
@@ -64,10 +64,10 @@ module _ (lines : List SheetLine) (codes index : List ℕ) (ways : List (List �
   G = at generations
 
   abbrev F : ℕ → ℕ
-  F = at from
+  F = from
 
   abbrev K : ℕ → ℕ
-  K = at link
+  K = link
 
   pub shapes-reached : Count (Reached rules rows) count
   shapes-reached = shapes-counted rules rows codes index ways count (f .kept) (f .whole)

@@ -15,14 +15,13 @@ use Rattle.judging.specs.declared.JudgeAnswer.{JudgeAnswer}
 use Rattle.judging.specs.Answer.{judgeSays, verdictOf}
 use Rattle.judging.specs.inner.Table.{SheetHeld, FirstWrong, linesIn, rulesIn, rowsIn, tableRules, TableFits}
 use Rattle.judging.specs.inner.Found.{onesIn, Searched}
-use Rattle.judging.specs.inner.Nodes.{at, back, Grid, Zeros, RaiseGrid, fromOf, linkOf}
+use Rattle.judging.specs.inner.Nodes.{at, back, Grid, Zeros, fromOf, linkOf}
 use Rattle.judging.specs.inner.Links.{Closed, Spreads}
 use Rattle.judging.specs.inner.Written.{Deepest, InTurn}
 use Rattle.judging.specs.inner.Trails.{Lent}
 use Rattle.judging.specs.inner.Facts.{Facts}
 use Rattle.judging.specs.inner.Judged.{Known, SaysEndless, Lines, SaysSettled}
 use Rattle.judging.proofs.CodeLaws.{code-of-shape}
-use Rattle.judging.proofs.NodeLaws.{from-grid-of, link-grid-of}
 use Rattle.judging.proofs.SheetLaws.{rules-fit, held-lines}
 use Rattle.judging.proofs.FoundLaws.{zeros, zero-at}
 use Rattle.judging.proofs.RuleLaws.{table-count}
@@ -40,7 +39,7 @@ ones-few (suc n) (m ∷ ms) = go (eqb m 1) (ones-few n ms)
     go false h = omega arith
 
 -- A deepest node of so many shapes is within the grid.
-pub deepest-within : {generations link : List (List ℕ)} {count x : ℕ} → count ≤ 512 → Deepest generations link (7 * count) x → x < 3584
+pub deepest-within : {generations : List (List ℕ)} {link : ℕ → ℕ} {count x : ℕ} → count ≤ 512 → Deepest generations link (7 * count) x → x < 3584
 deepest-within {count = count} {x = x} few deep = go (decLt 0 (7 * count))
   where
     go : Dec (0 < 7 * count) → x < 3584
@@ -69,9 +68,8 @@ module _ {numbers table : List ℕ} {rules : ℕ} {codes index : List ℕ} {ways
       (kept-closed (rulesIn numbers) (rowsIn numbers) codes index ways count code-of-shape (known .kept) (known .whole))
 
   -- The generations are raised.
-  module _ {generations : List (List ℕ)} (raises : List (List (List ℕ))) {turning : ℕ}
-      (spreads : Spreads (tableRules table rules) codes count generations (fromOf raises) (linkOf raises) turning) where
-    facts : Facts (linesIn numbers) codes index ways fired count generations (fromOf raises) (linkOf raises) turning
+  module _ {generations : List (List ℕ)} {from link : ℕ → ℕ} {turning : ℕ} (spreads : Spreads (tableRules table rules) codes count generations from link turning) where
+    facts : Facts (linesIn numbers) codes index ways fired count generations from link turning
     facts =
         record {
           fit = rules-fit (linesIn numbers) (held-lines (known .sheet) .1);
@@ -84,28 +82,30 @@ module _ {numbers table : List ℕ} {rules : ℕ} {codes index : List ℕ} {ways
     pub writers-lent : (steps : List ℕ) → 20480 ≤ length steps → Lent steps ways count
     writers-lent steps room =
         record {
-          falls = falls (linesIn numbers) codes index ways fired count generations (fromOf raises) (linkOf raises) turning facts;
+          falls = falls (linesIn numbers) codes index ways fired count generations from link turning facts;
           room = room;
         }
 
-    pub lines-lead : turning ≡ 0 → Lines generations (fromOf raises) count
+    pub lines-lead : turning ≡ 0 → Lines generations from count
     lines-lead settled =
         record {
           below = λ x raised. go x raised (decLt x (7 * count));
-          lines = in-line (linesIn numbers) codes index ways fired count generations (fromOf raises) (linkOf raises) turning facts settled;
+          lines = in-line (linesIn numbers) codes index ways fired count generations from link turning facts settled;
         }
       where
         go : (x : ℕ) → 0 < at generations x → Dec (x < 7 * count) → x < 7 * count
         go x raised (yes p) = p
         go x raised (no h) = absurd (omega (arith, spreads .outside x (omega arith)))
 
-    pub turns-back : (y : ℕ) → turning ≡ suc y → (y < 7 * count) × InTurn (fromOf raises) (7 * count) y
+    pub turns-back : (y : ℕ) → turning ≡ suc y → (y < 7 * count) × InTurn from (7 * count) y
     turns-back y turns = (
-      turn-below (linesIn numbers) codes index ways fired count generations (fromOf raises) (linkOf raises) turning facts y turns,
-      in-turn (linesIn numbers) codes index ways fired count generations (fromOf raises) (linkOf raises) turning facts y turns,
+      turn-below (linesIn numbers) codes index ways fired count generations from link turning facts y turns,
+      in-turn (linesIn numbers) codes index ways fired count generations from link turning facts y turns,
     )
 
-    -- The figures are those of the sheet.
+  -- The figures are those of the sheet.
+  module _ {generations : List (List ℕ)} (raises : List (List ℕ)) {turning : ℕ}
+      (spreads : Spreads (tableRules table rules) codes count generations (fromOf raises) (linkOf raises) turning) where
     module _ {counts : Figures} (shapes-are : counts .shapes ≡ count) (ones-are : counts .fired ≡ onesIn rules fired) (share-are : counts .share ≡ share (counts .fired) rules)
         (before after : List ℕ) (room : 20480 ≤ length before) (answer : JudgeAnswer) where
       pub endless-right : (y : ℕ) → turning ≡ suc y → SaysEndless ways raises (counts .shapes) y counts before answer after
@@ -113,7 +113,7 @@ module _ {numbers table : List ℕ} {rules : ℕ} {codes index : List ℕ} {ways
       endless-right y turns said =
           let s = subst (λ (n : ℕ). SaysEndless ways raises n y counts before answer after) shapes-are said in
           rw (s .says)
-          (endless (linesIn numbers) codes index ways fired count generations (fromOf raises) (linkOf raises) turning facts numbers before after
+          (endless (linesIn numbers) codes index ways fired count generations (fromOf raises) (linkOf raises) turning (facts spreads) numbers before after
           (sheet-lines numbers (known .sheet)) room (verdictOf 2 (s .figures)) (s .shapes ∙ shapes-are) (s .fired-is ∙ ones-are ∙ ap (λ (n : ℕ). onesIn n fired) (sym rules-counted))
           (s .share-is ∙ share-are ∙ ap (λ (n : ℕ). share n rules) (sym (s .fired-is)) ∙ ap (share (s .figures .fired)) (sym rules-counted))
           y (s .figures .turns) (s .figures .trail) turns (s .wrote .turn) (s .wrote .way) refl (s .deepest) (s .wrote .first) refl refl (s .wrote .steps))
@@ -134,14 +134,14 @@ module _ {numbers table : List ℕ} {rules : ℕ} {codes index : List ℕ} {ways
           go : Dec (0 < at generations (s .node)) → JudgeMeets shapeLimit numbers before (judged (verdictOf 1 (s .figures))) after
           go (yes p) =
               let w = s .raised p in
-              settles (linesIn numbers) codes index ways fired count generations (fromOf raises) (linkOf raises) turning facts numbers before after
+              settles (linesIn numbers) codes index ways fired count generations (fromOf raises) (linkOf raises) turning (facts spreads) numbers before after
               (sheet-lines numbers (known .sheet)) room (verdictOf 1 (s .figures)) (s .shapes ∙ shapes-are) fired-are share-is
-              settled (s .node) (w .links) (w .reaching) (back (at (fromOf raises)) (w .links) (s .node)) (s .deep) p (w .line) refl (w .way) refl (s .deepest) (w .first) (w .counted)
+              settled (s .node) (w .links) (w .reaching) (back (fromOf raises) (w .links) (s .node)) (s .deep) p (w .line) refl (w .way) refl (s .deepest) (w .first) (w .counted)
               (s .turns) (w .steps)
           go (no h) =
               let none : at generations (s .node) ≡ 0 = omega arith in
               let f = s .flat none in
-              settles-at-once (linesIn numbers) codes index ways fired count generations (fromOf raises) (linkOf raises) turning facts numbers before after
+              settles-at-once (linesIn numbers) codes index ways fired count generations (fromOf raises) (linkOf raises) turning (facts spreads) numbers before after
               (sheet-lines numbers (known .sheet)) room (verdictOf 1 (s .figures)) (s .shapes ∙ shapes-are) fired-are share-is
               settled (s .node) (s .deep) none refl (s .deepest ∙ none) (f .0) (f .1) (s .turns) (f .2)
 
@@ -175,18 +175,3 @@ zeros-are g e =
       grid = record { size = ap (λ (l : List (List ℕ)). length l) e ∙ length-replicate 512 (zeros 7); rows = λ s l. rw e (row-of-zeros 512 s l) };
       zero-at = λ v. rw e (zero-in-grid 512 (v / 7) (v % 7));
     }
-
-pub no-raises-are : (raises : List (List (List ℕ))) → raises ≡ replicate 512 (replicate 7 (zeros 2)) → RaiseGrid raises
-no-raises-are raises e = record { from = from-grid; link = link-grid }
-  where
-    size : length raises ≡ 512
-    size = ap (λ (l : List (List (List ℕ))). length l) e ∙ length-replicate 512 (replicate 7 (zeros 2))
-
-    row : (s : ℕ) → s < 512 → length (getD raises s []) ≡ 7
-    row s l = rw e (ap (λ (r : List (List ℕ)). length r) (getD-replicate 512 s (replicate 7 (zeros 2)) [] l) ∙ length-replicate 7 (zeros 2))
-
-    from-grid : Grid (fromOf raises)
-    from-grid = from-grid-of raises size row
-
-    link-grid : Grid (linkOf raises)
-    link-grid = link-grid-of raises size row

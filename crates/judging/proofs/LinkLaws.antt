@@ -106,7 +106,7 @@ carried-only d (carriedLink y e) = e
 carried-only d (freshLink z e) = absurd (d z)
 
 module _ {n : ℕ} (bytes : List ℕ) (r h s t j : ℕ) {place : ℕ} (is : place ≡ placeOf bytes h j)
-    {g₀ g : List (List ℕ)} {f₀ f : List (List (List ℕ))} {w₀ w : List ℕ} {r₀ q : Raised} where
+    {g₀ g f₀ f : List (List ℕ)} {w₀ w : List ℕ} {r₀ q : Raised} where
   pub fresh-field : place ≡ 0 → Done n (Upto 7 (FreshLink bytes s (7 * t + (j + 1)) (8 * r + 2 * h + 1))) g₀ f₀ w₀ r₀ g f w q
       → Done n (FieldLink bytes r h s t j) g₀ f₀ w₀ r₀ g f w q
   fresh-field z d = let y : placeOf bytes h j ≡ 0 = sym is ∙ z in alike (λ u v code e. freshLink y e) (λ u v code e. fresh-only y e) d

@@ -1,13 +1,13 @@
 -- Numbers at nodes after one was put, and their sum. Assumes nothing.
 use mathlib.Core.Path.{_≡_, refl, sym, ap, _∙_}
-use mathlib.Core.List.{List, [], _∷_, map}
+use mathlib.Core.List.{List, [], _∷_}
 use mathlib.Core.Logic.{by-cases}
 use Prim.Native.Nat.{ℕ, zero, suc, _+_, _*_, _/_, _%_, _≤_, _<_}
 use native.Mathlib.Omega.{arith}
 use native.Mathlib.Decide.{ℕ-discrete}
-use lib.ListN.{length, getD, set, length-set, length-map}
+use lib.ListN.{length, getD, set, length-set}
 use lib.Seq.{getD-set-same, getD-set-other}
-use Rattle.judging.specs.inner.Nodes.{at, put, Grid, fromOf, linkOf, putRaise, RaiseGrid}
+use Rattle.judging.specs.inner.Nodes.{at, put, Grid, fromOf, linkOf, putRaise}
 use Rattle.judging.specs.inner.Passes.{sumTo}
 
 -- The node of field p of shape s.
@@ -76,83 +76,29 @@ module _ {g : List (List ℕ)} (grid : Grid g) (v x : ℕ) (low : v < 3584) wher
 
 -- ---- how nodes were raised
 
-module _ {A B : Type 0} (f : A → B) where
-  map-at : (d : A) (xs : List A) (k : ℕ) → getD (map f xs) k (f d) ≡ f (getD xs k d)
-  map-at d [] k = refl
-  map-at d (x ∷ xs) zero = refl
-  map-at d (x ∷ xs) (suc k) = map-at d xs k
+module _ (raises : List (List ℕ)) (v u link : ℕ) (low : v < length raises) where
+  row-same : getD (putRaise raises v u link) v [] ≡ u ∷ link ∷ []
+  row-same = getD-set-same raises v (u ∷ link ∷ []) [] low
 
-  map-set : (xs : List A) (k : ℕ) (y : A) → map f (set xs k y) ≡ set (map f xs) k (f y)
-  map-set [] k y = refl
-  map-set (x ∷ xs) zero y = refl
-  map-set (x ∷ xs) (suc k) y = ap (λ (zs : List B). f x ∷ zs) (map-set xs k y)
+  row-other : (x : ℕ) → (x ≡ v → ⊥) → getD (putRaise raises v u link) x [] ≡ getD raises x []
+  row-other x d = getD-set-other raises v x (u ∷ link ∷ []) [] d
 
--- The grid of one number of each node's row.
-abbrev columnOf : ℕ → List (List (List ℕ)) → List (List ℕ)
-columnOf c raises = map (map (λ r. getD r c 0)) raises
-
-column-at : (c : ℕ) (raises : List (List (List ℕ))) (v : ℕ) → at (columnOf c raises) v ≡ getD (getD (getD raises (v / 7) []) (v % 7) []) c 0
-unfolding at
-column-at c raises v =
-    ap (λ (row : List ℕ). getD row (v % 7) 0) (map-at (map (λ r. getD r c 0)) [] raises (v / 7)) ∙ map-at (λ r. getD r c 0) [] (getD raises (v / 7) []) (v % 7)
-
-column-put : (c : ℕ) (raises : List (List (List ℕ))) (v u link : ℕ) → columnOf c (putRaise raises v u link) ≡ put (columnOf c raises) v (getD (u ∷ link ∷ []) c 0)
-unfolding put putRaise
-column-put c raises v u link =
-    map-set (map (λ r. getD r c 0)) raises (v / 7) (set (getD raises (v / 7) []) (v % 7) (u ∷ link ∷ []))
-    ∙ ap (set (columnOf c raises) (v / 7))
-    (map-set (λ r. getD r c 0) (getD raises (v / 7) []) (v % 7) (u ∷ link ∷ [])
-    ∙ ap (λ (row : List ℕ). set row (v % 7) (getD (u ∷ link ∷ []) c 0)) (sym (map-at (map (λ r. getD r c 0)) [] raises (v / 7))))
-
-column-grid : (c : ℕ) (raises : List (List (List ℕ))) → length raises ≡ 512 → ((s : ℕ) → s < 512 → length (getD raises s []) ≡ 7) → Grid (columnOf c raises)
-column-grid c raises size rows =
-    record {
-      size = length-map raises (map (λ r. getD r c 0)) ∙ size;
-      rows = λ s l. ap length (map-at (map (λ r. getD r c 0)) [] raises s) ∙ length-map (getD raises s []) (λ r. getD r c 0) ∙ rows s l;
-    }
-
-pub from-grid-of : (raises : List (List (List ℕ))) → length raises ≡ 512 → ((s : ℕ) → s < 512 → length (getD raises s []) ≡ 7) → Grid (fromOf raises)
-unfolding fromOf
-from-grid-of raises size rows = column-grid 0 raises size rows
-
-pub link-grid-of : (raises : List (List (List ℕ))) → length raises ≡ 512 → ((s : ℕ) → s < 512 → length (getD raises s []) ≡ 7) → Grid (linkOf raises)
-unfolding linkOf
-link-grid-of raises size rows = column-grid 1 raises size rows
-
--- The row of a node holds the two numbers.
-pub from-at : (raises : List (List (List ℕ))) (v : ℕ) → at (fromOf raises) v ≡ getD (getD (getD raises (v / 7) []) (v % 7) []) 0 0
-unfolding fromOf
-from-at raises v = column-at 0 raises v
-
-pub link-at : (raises : List (List (List ℕ))) (v : ℕ) → at (linkOf raises) v ≡ getD (getD (getD raises (v / 7) []) (v % 7) []) 1 0
-unfolding linkOf
-link-at raises v = column-at 1 raises v
-
-from-put-is : (raises : List (List (List ℕ))) (v u link : ℕ) → fromOf (putRaise raises v u link) ≡ put (fromOf raises) v u
-unfolding fromOf
-from-put-is raises v u link = column-put 0 raises v u link
-
-link-put-is : (raises : List (List (List ℕ))) (v u link : ℕ) → linkOf (putRaise raises v u link) ≡ put (linkOf raises) v link
-unfolding linkOf
-link-put-is raises v u link = column-put 1 raises v u link
-
-module _ {raises : List (List (List ℕ))} (grid : RaiseGrid raises) (v u link : ℕ) (low : v < 3584) where
-  pub from-put : Change (at (fromOf raises)) (at (fromOf (putRaise raises v u link))) v u
-  from-put = rw (from-put-is raises v u link) (put-change (grid .from) v u low)
-
-  pub link-put : Change (at (linkOf raises)) (at (linkOf (putRaise raises v u link))) v link
-  link-put = rw (link-put-is raises v u link) (put-change (grid .link) v link low)
-
-  pub raise-put : RaiseGrid (putRaise raises v u link)
-  raise-put =
+  pub from-put : Change (fromOf raises) (fromOf (putRaise raises v u link)) v u
+  from-put =
       record {
-        from = rw (from-put-is raises v u link) (put-grid (grid .from) v u low);
-        link = rw (link-put-is raises v u link) (put-grid (grid .link) v link low);
+        same = ap (λ (row : List ℕ). getD row 0 0) row-same;
+        other = λ x d. ap (λ (row : List ℕ). getD row 0 0) (row-other x d);
       }
 
-pub put-raise-field : (raises : List (List (List ℕ))) (s p u link : ℕ) → p < 7 → putRaise raises (7 * s + p) u link ≡ set raises s (set (getD raises s []) p (u ∷ link ∷ []))
-unfolding putRaise
-put-raise-field raises s p u link l = rw (node-shape s p l, node-field s p l) refl
+  pub link-put : Change (linkOf raises) (linkOf (putRaise raises v u link)) v link
+  link-put =
+      record {
+        same = ap (λ (row : List ℕ). getD row 1 0) row-same;
+        other = λ x d. ap (λ (row : List ℕ). getD row 1 0) (row-other x d);
+      }
+
+pub length-put-raise : (raises : List (List ℕ)) (v u link : ℕ) → length (putRaise raises v u link) ≡ length raises
+length-put-raise raises v u link = length-set raises v (u ∷ link ∷ [])
 
 -- ---- sums
 

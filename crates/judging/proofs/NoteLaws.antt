@@ -116,7 +116,7 @@ module _ {table : List ℕ} {rules : ℕ} (fits : TableFits table rules) {index 
 
     -- Following them all is following the shape's links.
     pub notes-done :
-        {n s : ℕ} {g₀ g : List (List ℕ)} {f₀ f : List (List (List ℕ))} {w₀ w : List ℕ} {r₀ r : Raised}
+        {n s : ℕ} {g₀ g f₀ f : List (List ℕ)} {w₀ w : List ℕ} {r₀ r : Raised}
         → Done n (NotesLink table part s) g₀ f₀ w₀ r₀ g f w r → Done n (ShapeLink table rules index code s) g₀ f₀ w₀ r₀ g f w r
     notes-done {s = s} d =
         let b = noted .begun in

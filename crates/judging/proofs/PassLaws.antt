@@ -14,7 +14,7 @@ use Rattle.judging.specs.declared.spread.Raised.{Raised}
 use Rattle.judging.specs.declared.spread.Raised.the-variants.{Nothing, Node, Over}
 use Rattle.judging.specs.declared.spread.Source.{Source}
 use Rattle.judging.specs.declared.spread.Source.the-variants.{Place, Nowhere}
-use Rattle.judging.proofs.NodeLaws.{Change, put-change, put-grid, from-put, link-put, raise-put, sum-change}
+use Rattle.judging.proofs.NodeLaws.{Change, put-change, put-grid, from-put, link-put, length-put-raise, sum-change}
 use Rattle.judging.proofs.BackLaws.{raise}
 
 -- Nothing raised is nothing raised too high; what was raised last is too high or not.
@@ -50,7 +50,7 @@ over-or-not (Over v) = inr refl
 
 -- Nothing was done, and every link of P rests where the following goes on.
 pub stay :
-    {n : ℕ} {P : ℕ → ℕ → ℕ → Type 0} {g : List (List ℕ)} {raises : List (List (List ℕ))} {waiting : List ℕ} {last : Raised} → Live n g raises waiting last
+    {n : ℕ} {P : ℕ → ℕ → ℕ → Type 0} {g raises : List (List ℕ)} {waiting : List ℕ} {last : Raised} → Live n g raises waiting last
     → (overs last ≡ 0 → (u v code : ℕ) → P u v code → Rests g waiting u v code)
     → Done n P g raises waiting last g raises waiting last
 stay l rests =
@@ -67,18 +67,18 @@ stay l rests =
     }
 
 pub skip :
-    {n : ℕ} {P : ℕ → ℕ → ℕ → Type 0} {g : List (List ℕ)} {raises : List (List (List ℕ))} {waiting : List ℕ} {last : Raised} → Live n g raises waiting last
+    {n : ℕ} {P : ℕ → ℕ → ℕ → Type 0} {g raises : List (List ℕ)} {waiting : List ℕ} {last : Raised} → Live n g raises waiting last
     → ((u v code : ℕ) → P u v code → ⊥) → Done n P g raises waiting last g raises waiting last
 skip l none = stay l (λ q u v code p. absurd (none u v code p))
 
 pub none :
-    {n : ℕ} {P : ℕ → ℕ → ℕ → ℕ → Type 0} {g : List (List ℕ)} {raises : List (List (List ℕ))} {waiting : List ℕ} {last : Raised} → Live n g raises waiting last
+    {n : ℕ} {P : ℕ → ℕ → ℕ → ℕ → Type 0} {g raises : List (List ℕ)} {waiting : List ℕ} {last : Raised} → Live n g raises waiting last
     → Done n (Upto 0 P) g raises waiting last g raises waiting last
 none l = skip l (λ u v code p. let b = p .below in omega arith)
 
 -- First the links of P, then those of Q.
 pub both :
-    {n : ℕ} {P Q R : ℕ → ℕ → ℕ → Type 0} {g₀ g₁ g₂ : List (List ℕ)} {f₀ f₁ f₂ : List (List (List ℕ))} {w₀ w₁ w₂ : List ℕ} {r₀ r₁ r₂ : Raised}
+    {n : ℕ} {P Q R : ℕ → ℕ → ℕ → Type 0} {g₀ g₁ g₂ f₀ f₁ f₂ : List (List ℕ)} {w₀ w₁ w₂ : List ℕ} {r₀ r₁ r₂ : Raised}
     → ((u v code : ℕ) → P u v code → R u v code) → ((u v code : ℕ) → Q u v code → R u v code)
     → ((u v code : ℕ) → R u v code → P u v code ⊎ Q u v code)
     → Done n P g₀ f₀ w₀ r₀ g₁ f₁ w₁ r₁ → Done n Q g₁ f₁ w₁ r₁ g₂ f₂ w₂ r₂ → Done n R g₀ f₀ w₀ r₀ g₂ f₂ w₂ r₂
@@ -101,19 +101,19 @@ both {P = P} {Q = Q} {R = R} {g₀ = g₀} {g₁ = g₁} {g₂ = g₂} {f₀ = f
       edges = λ v. second v (b .edges v);
     }
   where
-    first : (v : ℕ) → Same g₁ f₁ g₂ f₂ v → Same g₀ f₀ g₁ f₁ v ⊎ P (at (fromOf f₁) v) v (at (linkOf f₁) v)
-        → Same g₀ f₀ g₂ f₂ v ⊎ R (at (fromOf f₂) v) v (at (linkOf f₂) v)
+    first : (v : ℕ) → Same g₁ f₁ g₂ f₂ v → Same g₀ f₀ g₁ f₁ v ⊎ P (fromOf f₁ v) v (linkOf f₁ v)
+        → Same g₀ f₀ g₂ f₂ v ⊎ R (fromOf f₂ v) v (linkOf f₂ v)
     first v y (inl x) =
         inl (record { high = y .high ∙ x .high; from-is = y .from-is ∙ x .from-is; link-is = y .link-is ∙ x .link-is })
-    first v y (inr x) = inr (rw (y .from-is, y .link-is) (p (at (fromOf f₁) v) v (at (linkOf f₁) v) x))
+    first v y (inr x) = inr (rw (y .from-is, y .link-is) (p (fromOf f₁ v) v (linkOf f₁ v) x))
 
-    second : (v : ℕ) → Same g₁ f₁ g₂ f₂ v ⊎ Q (at (fromOf f₂) v) v (at (linkOf f₂) v) → Same g₀ f₀ g₂ f₂ v ⊎ R (at (fromOf f₂) v) v (at (linkOf f₂) v)
+    second : (v : ℕ) → Same g₁ f₁ g₂ f₂ v ⊎ Q (fromOf f₂ v) v (linkOf f₂ v) → Same g₀ f₀ g₂ f₂ v ⊎ R (fromOf f₂ v) v (linkOf f₂ v)
     second v (inl y) = first v y (a .edges v)
-    second v (inr y) = inr (q (at (fromOf f₂) v) v (at (linkOf f₂) v) y)
+    second v (inr y) = inr (q (fromOf f₂ v) v (linkOf f₂ v) y)
 
 -- The followed links are some of R, and all of R rest.
 pub wider :
-    {n : ℕ} {P R : ℕ → ℕ → ℕ → Type 0} {g₀ g : List (List ℕ)} {f₀ f : List (List (List ℕ))} {w₀ w : List ℕ} {r₀ r : Raised} → ((u v code : ℕ) → P u v code → R u v code)
+    {n : ℕ} {P R : ℕ → ℕ → ℕ → Type 0} {g₀ g f₀ f : List (List ℕ)} {w₀ w : List ℕ} {r₀ r : Raised} → ((u v code : ℕ) → P u v code → R u v code)
     → Done n P g₀ f₀ w₀ r₀ g f w r → (overs r ≡ 0 → (u v code : ℕ) → R u v code → Rests g w u v code) → Done n R g₀ f₀ w₀ r₀ g f w r
 wider p a rests =
     record {
@@ -130,14 +130,14 @@ wider p a rests =
 
 -- The same links, named otherwise.
 pub alike :
-    {n : ℕ} {P R : ℕ → ℕ → ℕ → Type 0} {g₀ g : List (List ℕ)} {f₀ f : List (List (List ℕ))} {w₀ w : List ℕ} {r₀ r : Raised}
+    {n : ℕ} {P R : ℕ → ℕ → ℕ → Type 0} {g₀ g f₀ f : List (List ℕ)} {w₀ w : List ℕ} {r₀ r : Raised}
     → ((u v code : ℕ) → P u v code → R u v code) → ((u v code : ℕ) → R u v code → P u v code)
     → Done n P g₀ f₀ w₀ r₀ g f w r → Done n R g₀ f₀ w₀ r₀ g f w r
 alike p s a = wider p a (λ l u v code e. a .rests l u v code (s u v code e))
 
 -- One level more.
 pub next :
-    {n : ℕ} {P : ℕ → ℕ → ℕ → ℕ → Type 0} {k : ℕ} {g₀ g₁ g₂ : List (List ℕ)} {f₀ f₁ f₂ : List (List (List ℕ))} {w₀ w₁ w₂ : List ℕ} {r₀ r₁ r₂ : Raised}
+    {n : ℕ} {P : ℕ → ℕ → ℕ → ℕ → Type 0} {k : ℕ} {g₀ g₁ g₂ f₀ f₁ f₂ : List (List ℕ)} {w₀ w₁ w₂ : List ℕ} {r₀ r₁ r₂ : Raised}
     → Done n (Upto k P) g₀ f₀ w₀ r₀ g₁ f₁ w₁ r₁ → Done n (P k) g₁ f₁ w₁ r₁ g₂ f₂ w₂ r₂
     → Done n (Upto (k + 1) P) g₀ f₀ w₀ r₀ g₂ f₂ w₂ r₂
 next {P = P} {k = k} a b =
@@ -152,12 +152,12 @@ next {P = P} {k = k} a b =
 
 -- All levels.
 pub whole :
-    {n : ℕ} {P : ℕ → ℕ → ℕ → ℕ → Type 0} {k m : ℕ} {g₀ g : List (List ℕ)} {f₀ f : List (List (List ℕ))} {w₀ w : List ℕ} {r₀ r : Raised}
+    {n : ℕ} {P : ℕ → ℕ → ℕ → ℕ → Type 0} {k m : ℕ} {g₀ g f₀ f : List (List ℕ)} {w₀ w : List ℕ} {r₀ r : Raised}
     → Done n (Upto k P) g₀ f₀ w₀ r₀ g f w r → k ≤ m → m ≤ k → Done n (Upto m P) g₀ f₀ w₀ r₀ g f w r
 whole {n} {P} {k} {m} {g₀} {g} {f₀} {f} {w₀} {w} {r₀} {r} d a b =
     let q : k ≡ m = omega arith in subst (λ (j : ℕ). Done n (Upto j P) g₀ f₀ w₀ r₀ g f w r) q d
 
-module _ {n : ℕ} {g : List (List ℕ)} {raises : List (List (List ℕ))} {waiting : List ℕ} {last : Raised} (l : Live n g raises waiting last) (u v code : ℕ) where
+module _ {n : ℕ} {g raises : List (List ℕ)} {waiting : List ℕ} {last : Raised} (l : Live n g raises waiting last) (u v code : ℕ) where
   -- A node is above n already.
   pub stopped : overs last ≡ 1 → Done n (Just u v code) g raises waiting last g raises waiting last
   stopped o = stay l (λ q. let y : ⊥ = omega arith in absurd y)
@@ -177,17 +177,17 @@ module _ {n : ℕ} {g : List (List ℕ)} {raises : List (List (List ℕ))} {wait
     larger : sumTo n (at g) < sumTo n (at (put g v (at g u + weight code)))
     larger = omega (arith, sum-change pg n to)
 
-    from-change : Change (at (fromOf raises)) (at (fromOf (putRaise raises v u code))) v u
-    from-change = from-put (l .raise-grid) v u code low-node
+    from-change : Change (fromOf raises) (fromOf (putRaise raises v u code)) v u
+    from-change = from-put raises v u code (let s = l .raise-size in let m = low-node in omega arith)
 
-    link-change : Change (at (linkOf raises)) (at (linkOf (putRaise raises v u code))) v code
-    link-change = link-put (l .raise-grid) v u code low-node
+    link-change : Change (linkOf raises) (linkOf (putRaise raises v u code)) v code
+    link-change = link-put raises v u code (let s = l .raise-size in let m = low-node in omega arith)
 
     raised-live : Live n (put g v (at g u + weight code)) (putRaise raises v u code) (set waiting (v / 7) 1) last₁
     raised-live =
         record {
           grid = put-grid (l .grid) v (at g u + weight code) low-node;
-          raise-grid = raise-put (l .raise-grid) v u code low-node;
+          raise-size = length-put-raise raises v u code ∙ l .raise-size;
           size = length-set waiting (v / 7) 1 ∙ l .size;
           small = l .small;
           timed = raise (l .timed) up pg from-change link-change;
@@ -267,13 +267,13 @@ module _ {n : ℕ} {g : List (List ℕ)} {raises : List (List (List ℕ))} {wait
 
     -- The same, of numbers that are known by equations.
     pub lifted :
-        {x t : ℕ} {g₁ : List (List ℕ)} {f₁ : List (List (List ℕ))} → x ≡ at g u + weight code → g₁ ≡ put g v x → f₁ ≡ putRaise raises v u code → t ≡ v / 7
+        {x t : ℕ} {g₁ f₁ : List (List ℕ)} → x ≡ at g u + weight code → g₁ ≡ put g v x → f₁ ≡ putRaise raises v u code → t ≡ v / 7
         → Done n (Just u v code) g raises waiting last g₁ f₁ (set waiting t 1) last₁
     lifted e eg ef et = rw (eg, ef, e, et) lift
 
 -- What was left is known by equations.
 pub arrived :
-    {n : ℕ} {P : ℕ → ℕ → ℕ → Type 0} {g₀ g g₁ : List (List ℕ)} {f₀ f f₁ : List (List (List ℕ))} {w₀ w w₁ : List ℕ} {r₀ r r₁ : Raised}
+    {n : ℕ} {P : ℕ → ℕ → ℕ → Type 0} {g₀ g g₁ f₀ f f₁ : List (List ℕ)} {w₀ w w₁ : List ℕ} {r₀ r r₁ : Raised}
     → g ≡ g₁ → f ≡ f₁ → w ≡ w₁ → r ≡ r₁ → Done n P g₀ f₀ w₀ r₀ g₁ f₁ w₁ r₁ → Done n P g₀ f₀ w₀ r₀ g f w r
 arrived eg ef ew er d = rw (eg, ef, ew, er) d
 
@@ -340,13 +340,13 @@ module _ {bytes : List ℕ} {g : List (List ℕ)} {s : ℕ} where
 
 -- A rule without sources has no fresh links.
 pub fresh-none :
-    {n : ℕ} {bytes : List ℕ} {s y z : ℕ} {g : List (List ℕ)} {raises : List (List (List ℕ))} {waiting : List ℕ} {last : Raised} → Live n g raises waiting last → NoSource bytes 0
+    {n : ℕ} {bytes : List ℕ} {s y z : ℕ} {g raises : List (List ℕ)} {waiting : List ℕ} {last : Raised} → Live n g raises waiting last → NoSource bytes 0
     → Done n (Upto 7 (FreshLink bytes s y z)) g raises waiting last g raises waiting last
 fresh-none l none = skip l (λ u v code f. none (f .number) (omega arith) (f .below) (f .here .source))
 
 -- After the fresh link from the best source the others rest.
 pub fresh-best :
-    {n : ℕ} {bytes : List ℕ} {s y z p : ℕ} {g₀ g : List (List ℕ)} {f₀ f : List (List (List ℕ))} {w₀ w : List ℕ} {r₀ r : Raised} → BestPlace bytes g₀ s 0 p
+    {n : ℕ} {bytes : List ℕ} {s y z p : ℕ} {g₀ g f₀ f : List (List ℕ)} {w₀ w : List ℕ} {r₀ r : Raised} → BestPlace bytes g₀ s 0 p
     → Done n (Just (7 * s + p) y z) g₀ f₀ w₀ r₀ g f w r → Done n (Upto 7 (FreshLink bytes s y z)) g₀ f₀ w₀ r₀ g f w r
 fresh-best {s = s} {y} {z} {p} {g = g} {w = w} b a =
     wider

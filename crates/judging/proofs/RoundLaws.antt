@@ -6,8 +6,9 @@ use mathlib.Core.Logic.{_⊎_, inl, inr, ⊎-elim, by-cases}
 use Prim.Native.Nat.{ℕ, _+_, _*_, _/_, _≤_, _<_}
 use native.Mathlib.Omega.{arith}
 use native.Mathlib.Decide.{ℕ-discrete}
+use lib.ListN.{length}
 use Rattle.judging.specs.inner.Table.{tableRules, TableFits}
-use Rattle.judging.specs.inner.Nodes.{at, RaiseGrid, fromOf, linkOf, Zeros, back, weight, Stable, Turn}
+use Rattle.judging.specs.inner.Nodes.{at, fromOf, linkOf, Zeros, back, weight, Stable, Turn}
 use Rattle.judging.specs.inner.Links.{Link, Closed, Spreads, turningNumber, hasTurn}
 use Rattle.judging.specs.declared.spread.Turning.{Turning}
 use Rattle.judging.specs.declared.spread.Turning.the-variants.{Nowhere, At}
@@ -32,29 +33,29 @@ some-turn Nowhere e z = false≢true e
 some-turn (At y) e z = omega arith
 
 -- Between two sweeps.
-pub record Round (table : List ℕ) (rules : ℕ) (codes index : List ℕ) (count : ℕ) (g : List (List ℕ)) (raises : List (List (List ℕ))) (waiting : List ℕ) : Type 0 where
+pub record Round (table : List ℕ) (rules : ℕ) (codes index : List ℕ) (count : ℕ) (g raises : List (List ℕ)) (waiting : List ℕ) : Type 0 where
   pub live : Live (7 * count) g raises waiting Nothing
   pub rests : (u v code : ℕ) → EachLink table rules codes index count u v code → Rests g waiting u v code
-  pub raised : (v : ℕ) → 0 < at g v → Link (tableRules table rules) codes count (at (fromOf raises) v) v (at (linkOf raises) v)
+  pub raised : (v : ℕ) → 0 < at g v → Link (tableRules table rules) codes count (fromOf raises v) v (linkOf raises v)
 
-pub height : {n : ℕ} {g : List (List ℕ)} {raises : List (List (List ℕ))} {waiting : List ℕ} → Live n g raises waiting Nothing → sumTo n (at g) ≤ n * n
+pub height : {n : ℕ} {g raises : List (List ℕ)} {waiting : List ℕ} → Live n g raises waiting Nothing → sumTo n (at g) ≤ n * n
 height {n = n} {g = g} l = sum-low n n (at g) (λ v. l .low v (λ o p. omega arith))
 
 module _ {table : List ℕ} {rules : ℕ} (tf : TableFits table rules) {codes index : List ℕ} {count : ℕ}
     (closed : Closed (tableRules table rules) codes index count) where
   -- Nothing is raised yet, and the shapes wait that fresh links may lead from.
-  pub nothing : {g : List (List ℕ)} {raises : List (List (List ℕ))} {waiting : List ℕ} → Zeros g → RaiseGrid raises → FirstWaiting table rules codes count waiting
+  pub nothing : {g raises : List (List ℕ)} {waiting : List ℕ} → Zeros g → length raises ≡ 3584 → FirstWaiting table rules codes count waiting
       → Round table rules codes index count g raises waiting
-  nothing {g} {raises} z rg first =
+  nothing {g} {raises} z size first =
       let few = closed .few in
       record {
         live =
             record {
               grid = z .grid;
-              raise-grid = rg;
+              raise-size = size;
               size = first .size;
               small = omega arith;
-              timed = begun (at g) (at (fromOf raises)) (at (linkOf raises)) (z .zero-at);
+              timed = begun (at g) (fromOf raises) (linkOf raises) (z .zero-at);
               node = λ p. let y : ⊥ = omega arith in absurd y;
               low = λ v d. omega (arith, z .zero-at v);
               high = λ e. let y : ⊥ = omega arith in absurd y;
@@ -63,22 +64,22 @@ module _ {table : List ℕ} {rules : ℕ} (tf : TableFits table rules) {codes in
         raised = λ v l. let y : ⊥ = omega (arith, z .zero-at v) in absurd y;
       }
 
-  module _ {g₀ : List (List ℕ)} {raises₀ : List (List (List ℕ))} {waiting₀ : List ℕ} (round : Round table rules codes index count g₀ raises₀ waiting₀)
-      {g : List (List ℕ)} {raises : List (List (List ℕ))} {waiting : List ℕ} {last : Raised}
+  module _ {g₀ raises₀ : List (List ℕ)} {waiting₀ : List ℕ} (round : Round table rules codes index count g₀ raises₀ waiting₀)
+      {g raises : List (List ℕ)} {waiting : List ℕ} {last : Raised}
       (s : Swept (7 * count) (EachLink table rules codes index count) count g₀ raises₀ g raises waiting last) where
-    kept : Kept (Link (tableRules table rules) codes count) (at g) (at (fromOf raises)) (at (linkOf raises))
+    kept : Kept (Link (tableRules table rules) codes count) (at g) (fromOf raises) (linkOf raises)
     kept = record { edge = λ v l. go v l (s .edges v); timed = s .live .timed }
       where
-        go : (v : ℕ) → 0 < at g v → Same g₀ raises₀ g raises v ⊎ EachLink table rules codes index count (at (fromOf raises) v) v (at (linkOf raises) v)
-            → Link (tableRules table rules) codes count (at (fromOf raises) v) v (at (linkOf raises) v)
+        go : (v : ℕ) → 0 < at g v → Same g₀ raises₀ g raises v ⊎ EachLink table rules codes index count (fromOf raises v) v (linkOf raises v)
+            → Link (tableRules table rules) codes count (fromOf raises v) v (linkOf raises v)
         go v l (inl y) = rw (y .from-is, y .link-is) (round .raised v (let e = y .high in omega arith))
-        go v l (inr e) = to-link tf closed (at (fromOf raises) v) v (at (linkOf raises) v) e
+        go v l (inr e) = to-link tf closed (fromOf raises v) v (linkOf raises v) e
 
     outside : (x : ℕ) → 7 * count ≤ x → at g x ≡ 0
     outside x l =
         by-cases (ℕ-discrete (at g x) 0)
         (λ (e : at g x ≡ 0). e)
-        (λ (d : at g x ≡ 0 → ⊥). absurd (omega (arith, sane tf closed .to (at (fromOf raises) x) x (at (linkOf raises) x) (kept .edge x (omega arith)))))
+        (λ (d : at g x ≡ 0 → ⊥). absurd (omega (arith, sane tf closed .to (fromOf raises x) x (linkOf raises x) (kept .edge x (omega arith)))))
 
     -- Nothing was raised: all is settled.
     stable : changes last ≡ 0 → Stable (Link (tableRules table rules) codes count) (at g)
@@ -92,7 +93,7 @@ module _ {table : List ℕ} {rules : ℕ} (tf : TableFits table rules) {codes in
     pub settled : {turning : ℕ} → turning ≡ 0 → changes last ≡ 0 → Spreads (tableRules table rules) codes count g (fromOf raises) (linkOf raises) turning
     settled t z =
         record {
-          grids = (s .live .grid, s .live .raise-grid .from, s .live .raise-grid .link);
+          grid = s .live .grid;
           settled = λ _. (stable z, λ x l. line kept (sane tf closed) (stable z) x l);
           endless = λ y e. let q : ⊥ = omega arith in absurd q;
           outside = outside;
@@ -106,7 +107,6 @@ module _ {table : List ℕ} {rules : ℕ} (tf : TableFits table rules) {codes in
       inside =
           record {
             grid = s .live .grid;
-            grid-from = s .live .raise-grid .from;
             node = last-low;
             small = s .live .small;
             below = λ k l. below kept (sane tf closed) k x last-low l;
@@ -130,7 +130,7 @@ module _ {table : List ℕ} {rules : ℕ} (tf : TableFits table rules) {codes in
               live =
                   record {
                     grid = s .live .grid;
-                    raise-grid = s .live .raise-grid;
+                    raise-size = s .live .raise-size;
                     size = s .live .size;
                     small = s .live .small;
                     timed = s .live .timed;
@@ -146,15 +146,15 @@ module _ {table : List ℕ} {rules : ℕ} (tf : TableFits table rules) {codes in
         pub endless : (turning ≡ 0 → ⊥) → Spreads (tableRules table rules) codes count g (fromOf raises) (linkOf raises) turning
         endless d =
             record {
-              grids = (s .live .grid, s .live .raise-grid .from, s .live .raise-grid .link);
+              grid = s .live .grid;
               settled = λ z. absurd (d z);
               endless = λ y e.
                   let f = w .long (omega arith) in
-                  let q : back (at (fromOf raises)) (7 * count) x ≡ y = omega (arith, f .0) in
+                  let q : back (fromOf raises) (7 * count) x ≡ y = omega (arith, f .0) in
                   let b = back-again kept (sane tf closed) x last-low (f .1) in
-                  subst (λ (y : ℕ). (y < 7 * count) × ((k : ℕ) × (k ≤ 7 * count) × Turn (Link (tableRules table rules) codes count) (at (fromOf raises)) (at (linkOf raises)) k y)) q (
+                  subst (λ (y : ℕ). (y < 7 * count) × ((k : ℕ) × (k ≤ 7 * count) × Turn (Link (tableRules table rules) codes count) (fromOf raises) (linkOf raises) k y)) q (
                     below kept (sane tf closed) (7 * count) x last-low (f .1),
-                    turn kept (back (at (fromOf raises)) (7 * count) x) (b .0) (7 * count) (b .1) (b .2)
+                    turn kept (back (fromOf raises) (7 * count) x) (b .0) (7 * count) (b .1) (b .2)
                         (λ k. forever kept (sane tf closed) x last-low (f .1) (7 * count) k) (b .3),
                   );
               outside = outside;

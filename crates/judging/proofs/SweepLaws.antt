@@ -14,12 +14,12 @@ use Rattle.judging.specs.declared.spread.Raised.{Raised}
 use Rattle.judging.specs.declared.spread.Raised.the-variants.{Nothing}
 
 -- The shapes at the first i places of the order have had their turn.
-pub record Passed (n : ℕ) (E : ℕ → ℕ → ℕ → Type 0) (order : List ℕ) (i : ℕ) (g₀ : List (List ℕ)) (f₀ : List (List (List ℕ))) (g : List (List ℕ)) (f : List (List (List ℕ))) (w : List ℕ) (r : Raised) : Type 0 where
+pub record Passed (n : ℕ) (E : ℕ → ℕ → ℕ → Type 0) (order : List ℕ) (i : ℕ) (g₀ f₀ g f : List (List ℕ)) (w : List ℕ) (r : Raised) : Type 0 where
   pub swept : Swept n E 0 g₀ f₀ g f w r
   pub idle-at : changes r ≡ 0 → (j : ℕ) → j < i → getD w (getD order j 0) 0 ≡ 1 → ⊥
 
 pub begin :
-    {n : ℕ} {E : ℕ → ℕ → ℕ → Type 0} {order : List ℕ} {g : List (List ℕ)} {raises : List (List (List ℕ))} {waiting : List ℕ} → Live n g raises waiting Nothing
+    {n : ℕ} {E : ℕ → ℕ → ℕ → Type 0} {order : List ℕ} {g raises : List (List ℕ)} {waiting : List ℕ} → Live n g raises waiting Nothing
     → ((u v code : ℕ) → E u v code → Rests g waiting u v code) → Passed n E order 0 g raises g raises waiting Nothing
 begin l rests =
     record {
@@ -37,12 +37,12 @@ begin l rests =
 
 -- A shape's mark is taken away.
 pub unmarked :
-    {n : ℕ} {g : List (List ℕ)} {raises : List (List (List ℕ))} {waiting : List ℕ} {last : Raised} (s : ℕ) → Live n g raises waiting last
+    {n : ℕ} {g raises : List (List ℕ)} {waiting : List ℕ} {last : Raised} (s : ℕ) → Live n g raises waiting last
     → Live n g raises (set waiting s 0) last
 unmarked {waiting = waiting} s l =
     record {
       grid = l .grid;
-      raise-grid = l .raise-grid;
+      raise-size = l .raise-size;
       size = length-set waiting s 0 ∙ l .size;
       small = l .small;
       timed = l .timed;
@@ -51,7 +51,7 @@ unmarked {waiting = waiting} s l =
       high = l .high;
     }
 
-module _ {n : ℕ} {E : ℕ → ℕ → ℕ → Type 0} {order : List ℕ} {i : ℕ} {g₀ g : List (List ℕ)} {f₀ f : List (List (List ℕ))} {w : List ℕ} {r : Raised}
+module _ {n : ℕ} {E : ℕ → ℕ → ℕ → Type 0} {order : List ℕ} {i : ℕ} {g₀ g f₀ f : List (List ℕ)} {w : List ℕ} {r : Raised}
     (q : Passed n E order i g₀ f₀ g f w r) where
   -- The shape is not waiting.
   pub idle : (getD w (getD order i 0) 0 ≡ 1 → ⊥) → Passed n E order (i + 1) g₀ f₀ g f w r
@@ -66,21 +66,21 @@ module _ {n : ℕ} {E : ℕ → ℕ → ℕ → Type 0} {order : List ℕ} {i : 
 
   module _ {P : ℕ → ℕ → ℕ → Type 0} (own : (u v code : ℕ) → P u v code → E u v code)
       (split : (u v code : ℕ) → E u v code → P u v code ⊎ (u / 7 ≡ getD order i 0 → ⊥)) (below : getD order i 0 < 512)
-      {g₁ : List (List ℕ)} {f₁ : List (List (List ℕ))} {w₁ : List ℕ} {r₁ : Raised} (d : Done n P g f (set w (getD order i 0) 0) r g₁ f₁ w₁ r₁) where
+      {g₁ f₁ : List (List ℕ)} {w₁ : List ℕ} {r₁ : Raised} (d : Done n P g f (set w (getD order i 0) 0) r g₁ f₁ w₁ r₁) where
     -- The links of other shapes rest as they did.
     others : (u v code : ℕ) → (u / 7 ≡ getD order i 0 → ⊥) → Rests g w u v code → Rests g (set w (getD order i 0) 0) u v code
     others u v code q (inl e) = inl (getD-set-other w (getD order i 0) (u / 7) 0 0 q ∙ e)
     others u v code q (inr h) = inr h
 
-    first : (v : ℕ) → Same g f g₁ f₁ v → Same g₀ f₀ g f v ⊎ E (at (fromOf f) v) v (at (linkOf f) v)
-        → Same g₀ f₀ g₁ f₁ v ⊎ E (at (fromOf f₁) v) v (at (linkOf f₁) v)
+    first : (v : ℕ) → Same g f g₁ f₁ v → Same g₀ f₀ g f v ⊎ E (fromOf f v) v (linkOf f v)
+        → Same g₀ f₀ g₁ f₁ v ⊎ E (fromOf f₁ v) v (linkOf f₁ v)
     first v y (inl x) =
         inl (record { high = y .high ∙ x .high; from-is = y .from-is ∙ x .from-is; link-is = y .link-is ∙ x .link-is })
     first v y (inr x) = inr (rw (y .from-is, y .link-is) x)
 
-    second : (v : ℕ) → Same g f g₁ f₁ v ⊎ P (at (fromOf f₁) v) v (at (linkOf f₁) v) → Same g₀ f₀ g₁ f₁ v ⊎ E (at (fromOf f₁) v) v (at (linkOf f₁) v)
+    second : (v : ℕ) → Same g f g₁ f₁ v ⊎ P (fromOf f₁ v) v (linkOf f₁ v) → Same g₀ f₀ g₁ f₁ v ⊎ E (fromOf f₁ v) v (linkOf f₁ v)
     second v (inl y) = first v y (q .swept .edges v)
-    second v (inr y) = inr (own (at (fromOf f₁) v) v (at (linkOf f₁) v) y)
+    second v (inr y) = inr (own (fromOf f₁ v) v (linkOf f₁ v) y)
 
     -- The shape's links were followed.
     pub worked : Passed n E order (i + 1) g₀ f₀ g₁ f₁ w₁ r₁
@@ -121,13 +121,13 @@ module _ {n : ℕ} {E : ℕ → ℕ → ℕ → Type 0} {order : List ℕ} {i : 
 
 -- What was left is known by equations.
 pub passed-is :
-    {n : ℕ} {E : ℕ → ℕ → ℕ → Type 0} {order : List ℕ} {i : ℕ} {g₀ g g₁ : List (List ℕ)} {f₀ f f₁ : List (List (List ℕ))} {w w₁ : List ℕ} {r r₁ : Raised}
+    {n : ℕ} {E : ℕ → ℕ → ℕ → Type 0} {order : List ℕ} {i : ℕ} {g₀ g g₁ f₀ f f₁ : List (List ℕ)} {w w₁ : List ℕ} {r r₁ : Raised}
     → g ≡ g₁ → f ≡ f₁ → w ≡ w₁ → r ≡ r₁ → Passed n E order i g₀ f₀ g₁ f₁ w₁ r₁ → Passed n E order i g₀ f₀ g f w r
 passed-is eg ef ew er d = rw (eg, ef, ew, er) d
 
 -- All shapes.
 pub swept-all :
-    {n : ℕ} {E : ℕ → ℕ → ℕ → Type 0} {order : List ℕ} {i m : ℕ} {g₀ g : List (List ℕ)} {f₀ f : List (List (List ℕ))} {w : List ℕ} {r : Raised}
+    {n : ℕ} {E : ℕ → ℕ → ℕ → Type 0} {order : List ℕ} {i m : ℕ} {g₀ g f₀ f : List (List ℕ)} {w : List ℕ} {r : Raised}
     → Passed n E order i g₀ f₀ g f w r → Ordered order m → m ≤ i → Swept n E m g₀ f₀ g f w r
 swept-all {w = w} q o b =
     let a = q .swept in

@@ -209,65 +209,65 @@ module _ {before : List ℕ} {ways : List (List ℕ)} {count s k : ℕ} {steps :
       (sym (put-none steps 0) ∙ ap (λ n. putSteps steps 0 (wayTo ways n x)) (sym z) ∙ p .rest, ap (λ n. wayBack ways n x) (sym z) ∙ p .start)
 
 -- The links of a line, put from the last one on.
-pub record PuttingLine (before : List ℕ) (first k : ℕ) (from link : List (List ℕ)) (x : ℕ) (steps : List ℕ) (y left : ℕ) : Type 0 where
+pub record PuttingLine (before : List ℕ) (first k : ℕ) (from link : ℕ → ℕ) (x : ℕ) (steps : List ℕ) (y left : ℕ) : Type 0 where
   pub stays : StaysBelow from left y
   pub size : length steps ≡ length before
   pub room : 5 * (first + left) ≤ length steps
-  pub rest : putSteps steps first (lineTo (at from) (at link) left y) ≡ putSteps before first (lineTo (at from) (at link) k x)
+  pub rest : putSteps steps first (lineTo from link left y) ≡ putSteps before first (lineTo from link k x)
 
-pub putting-line : (before : List ℕ) (first k : ℕ) (from link : List (List ℕ)) (x : ℕ) → StaysBelow from k x → 5 * (first + k) ≤ length before
+pub putting-line : (before : List ℕ) (first k : ℕ) (from link : ℕ → ℕ) (x : ℕ) → StaysBelow from k x → 5 * (first + k) ≤ length before
     → PuttingLine before first k from link x before x k
 putting-line before first k from link x h room = record { stays = h; size = refl; room = room; rest = refl }
 
-module _ {before : List ℕ} {first k : ℕ} {from link : List (List ℕ)} {x : ℕ} {steps : List ℕ} {y left : ℕ}
+module _ {before : List ℕ} {first k : ℕ} {from link : ℕ → ℕ} {x : ℕ} {steps : List ℕ} {y left : ℕ}
     (p : PuttingLine before first k from link x steps y left) where
   pub line-node : y < 3584
   line-node = p .stays 0 (omega arith)
 
-  line-next-at : (a : ℕ) → left ≡ suc a → (u code : ℕ) → u ≡ at from y → code ≡ at link y → (after : List ℕ)
+  line-next-at : (a : ℕ) → left ≡ suc a → (u code : ℕ) → u ≡ from y → code ≡ link y → (after : List ℕ)
       → after ≡ putSteps steps (first + a) (oneStep (code / 8 + 1) (code / 2 % 4 + 1) (u % 7) (y % 7) (code % 2))
       → PuttingLine before first k from link x after u a
   line-next-at a e u code ue ce after put =
       let room = p .room in
-      let one : List Step = linkStep (at from y) (at link y) y ∷ [] in
-      let line : List Step = lineTo (at from) (at link) a (at from y) in
+      let one : List Step = linkStep (from y) (link y) y ∷ [] in
+      let line : List Step = lineTo from link a (from y) in
       let put′ : after ≡ putSteps steps (first + a) one = rw (ue, ce) at put in
       let same : length after ≡ length steps = ap length put′ ∙ length-put steps (first + a) one (omega arith) in
       record {
         stays = λ j l.
-            subst (λ n. n < 3584) (sym (ap (back (at from) j) ue ∙ back-after (at from) j y)) (p .stays (suc j) (omega arith));
+            subst (λ n. n < 3584) (sym (ap (back from j) ue ∙ back-after from j y)) (p .stays (suc j) (omega arith));
         size = same ∙ p .size;
         room = omega arith;
         rest =
-            ap (λ v. putSteps after first (lineTo (at from) (at link) a v)) ue
+            ap (λ v. putSteps after first (lineTo from link a v)) ue
             ∙ ap (λ r. putSteps r first line) put′
-            ∙ put-before steps first (first + a) line one (omega (arith, length-line (at from) (at link) a (at from y))) (omega arith)
-            ∙ ap (λ n. putSteps steps first (lineTo (at from) (at link) n y)) (sym e)
+            ∙ put-before steps first (first + a) line one (omega (arith, length-line from link a (from y))) (omega arith)
+            ∙ ap (λ n. putSteps steps first (lineTo from link n y)) (sym e)
             ∙ p .rest;
       }
 
-  pub line-next : 0 < left → (u code : ℕ) → u ≡ at from y → code ≡ at link y → (after : List ℕ)
+  pub line-next : 0 < left → (u code : ℕ) → u ≡ from y → code ≡ link y → (after : List ℕ)
       → after ≡ putSteps steps (first + (left - 1)) (oneStep (code / 8 + 1) (code / 2 % 4 + 1) (u % 7) (y % 7) (code % 2))
       → PuttingLine before first k from link x after u (left - 1)
   line-next h = line-next-at (left - 1) (omega arith)
 
-  pub line-put : left ≤ 0 → steps ≡ putSteps before first (lineTo (at from) (at link) k x)
+  pub line-put : left ≤ 0 → steps ≡ putSteps before first (lineTo from link k x)
   line-put h =
       let z : left ≡ 0 = omega arith in
-      sym (put-none steps first) ∙ ap (λ n. putSteps steps first (lineTo (at from) (at link) n y)) (sym z) ∙ p .rest
+      sym (put-none steps first) ∙ ap (λ n. putSteps steps first (lineTo from link n y)) (sym z) ∙ p .rest
 
 -- Lengths of turns and lines.
 
 -- A walk of k links back from y that has not come back to y before.
-pub record Turning (from : List (List ℕ)) (y z k : ℕ) : Type 0 where
+pub record Turning (from : ℕ → ℕ) (y z k : ℕ) : Type 0 where
   pub some : 0 < k
-  pub is : z ≡ back (at from) k y
-  pub first : (j : ℕ) → 0 < j → j < k → back (at from) j y ≡ y → ⊥
+  pub is : z ≡ back from k y
+  pub first : (j : ℕ) → 0 < j → j < k → back from j y ≡ y → ⊥
 
-pub turning : {from : List (List ℕ)} {y : ℕ} (z : ℕ) → z ≡ at from y → Turning from y z 1
+pub turning : {from : ℕ → ℕ} {y : ℕ} (z : ℕ) → z ≡ from y → Turning from y z 1
 turning z e = record { some = omega arith; is = e; first = λ j p l. absurd (omega arith) }
 
-module _ {from : List (List ℕ)} {n y : ℕ} (turn : InTurn from n y) {z k : ℕ} (t : Turning from y z k) where
+module _ {from : ℕ → ℕ} {n y : ℕ} (turn : InTurn from n y) {z k : ℕ} (t : Turning from y z k) where
   pub turn-node : z < n
   turn-node = rw (t .is) (turn .nodes k)
 
@@ -277,35 +277,35 @@ module _ {from : List (List ℕ)} {n y : ℕ} (turn : InTurn from n y) {z k : �
   pub turn-left : (z ≡ y → ⊥) → k < n
   turn-left d =
       let few = turn .few in
-      ⊎-elim (λ (e : k ≡ turn .period). absurd (d (t .is ∙ ap (λ m. back (at from) m y) e ∙ turn .closes))) (λ (l : k < turn .period). omega arith)
+      ⊎-elim (λ (e : k ≡ turn .period). absurd (d (t .is ∙ ap (λ m. back from m y) e ∙ turn .closes))) (λ (l : k < turn .period). omega arith)
       (eq-or-lt-of-le turn-few)
 
-  pub turning-next : (z ≡ y → ⊥) → (u : ℕ) → u ≡ at from z → Turning from y u (k + 1)
+  pub turning-next : (z ≡ y → ⊥) → (u : ℕ) → u ≡ from z → Turning from y u (k + 1)
   turning-next d u e =
       record {
         some = omega arith;
-        is = e ∙ ap (at from) (t .is) ∙ ap (λ m. back (at from) m y) (sym (add-one k));
-        first = λ j p l b. below-more (λ i. 0 < i → back (at from) i y ≡ y → ⊥) k (λ i m q. t .first i q m) (λ q c. d (t .is ∙ c)) j l p b;
+        is = e ∙ ap from (t .is) ∙ ap (λ m. back from m y) (sym (add-one k));
+        first = λ j p l b. below-more (λ i. 0 < i → back from i y ≡ y → ⊥) k (λ i m q. t .first i q m) (λ q c. d (t .is ∙ c)) j l p b;
       }
 
   pub turned : z ≡ y → TurnLength from n y k
   turned e = let few = turn-few in let all = turn .few in record { some = t .some; few = omega arith; closes = sym (t .is) ∙ e; first = t .first }
 
 -- The nodes of a turn are within the grid.
-pub turn-stays : {from : List (List ℕ)} {n y : ℕ} → InTurn from n y → n ≤ 3584 → (k : ℕ) → StaysBelow from k y
+pub turn-stays : {from : ℕ → ℕ} {n y : ℕ} → InTurn from n y → n ≤ 3584 → (k : ℕ) → StaysBelow from k y
 turn-stays turn few k j l = let h = turn .nodes j in omega arith
 
 -- A walk of k links back from x that has not met generation 0 before.
-pub record Lining (generations from : List (List ℕ)) (x y k : ℕ) : Type 0 where
-  pub is : y ≡ back (at from) k x
-  pub high : (j : ℕ) → j < k → 0 < at generations (back (at from) j x)
+pub record Lining (generations : List (List ℕ)) (from : ℕ → ℕ) (x y k : ℕ) : Type 0 where
+  pub is : y ≡ back from k x
+  pub high : (j : ℕ) → j < k → 0 < at generations (back from j x)
 
-pub lining : (generations from : List (List ℕ)) (x : ℕ) → Lining generations from x x 0
+pub lining : (generations : List (List ℕ)) (from : ℕ → ℕ) (x : ℕ) → Lining generations from x x 0
 lining generations from x = record { is = refl; high = λ j l. absurd (omega arith) }
 
-module _ {generations from : List (List ℕ)} {n x : ℕ} (line : InLine generations from n x) where
+module _ {generations : List (List ℕ)} {from : ℕ → ℕ} {n x : ℕ} (line : InLine generations from n x) where
   -- Generation 0 is met after at most the line's steps.
-  line-few : {k : ℕ} → ((j : ℕ) → j < k → 0 < at generations (back (at from) j x)) → k ≤ line .steps
+  line-few : {k : ℕ} → ((j : ℕ) → j < k → 0 < at generations (back from j x)) → k ≤ line .steps
   line-few {k} high =
       let ends = line .ends in
       ⊎-elim (λ h. h) (λ (h : line .steps < k). let p = high (line .steps) h in absurd (omega arith)) (le-or-lt k (line .steps))
@@ -316,15 +316,15 @@ module _ {generations from : List (List ℕ)} {n x : ℕ} (line : InLine generat
 
     pub lining-left : (at generations y ≡ 0 → ⊥) → k < line .steps
     lining-left d =
-        ⊎-elim (λ (e : k ≡ line .steps). absurd (d (ap (at generations) (t .is ∙ ap (λ m. back (at from) m x) e) ∙ line .ends))) (λ l. l)
+        ⊎-elim (λ (e : k ≡ line .steps). absurd (d (ap (at generations) (t .is ∙ ap (λ m. back from m x) e) ∙ line .ends))) (λ l. l)
         (eq-or-lt-of-le (line-few (t .high)))
 
-    pub lining-next : (at generations y ≡ 0 → ⊥) → (u : ℕ) → u ≡ at from y → Lining generations from x u (k + 1)
+    pub lining-next : (at generations y ≡ 0 → ⊥) → (u : ℕ) → u ≡ from y → Lining generations from x u (k + 1)
     lining-next d u e =
         let some : 0 < at generations y = omega arith in
         record {
-          is = e ∙ ap (at from) (t .is) ∙ ap (λ m. back (at from) m x) (sym (add-one k));
-          high = below-more (λ j. 0 < at generations (back (at from) j x)) k (t .high) (subst (λ v. 0 < at generations v) (t .is) some);
+          is = e ∙ ap from (t .is) ∙ ap (λ m. back from m x) (sym (add-one k));
+          high = below-more (λ j. 0 < at generations (back from j x)) k (t .high) (subst (λ v. 0 < at generations v) (t .is) some);
         }
 
     pub lined : at generations y ≡ 0 → LineLength generations from n x k
@@ -334,61 +334,61 @@ module _ {generations from : List (List ℕ)} {n x : ℕ} (line : InLine generat
         record { few = omega arith; ends = sym (ap (at generations) (t .is)) ∙ z; high = t .high }
 
   module _ {k : ℕ} (size : LineLength generations from n x k) where
-    pub line-nodes : (j : ℕ) → j ≤ k → back (at from) j x < n
+    pub line-nodes : (j : ℕ) → j ≤ k → back from j x < n
     line-nodes j l = let few = line-few (size .high) in line .nodes j (omega arith)
 
     pub line-stays : n ≤ 3584 → StaysBelow from k x
     line-stays few j l = let h = line-nodes j l in omega arith
 
 -- The start of a line.
-pub record Starting (from : List (List ℕ)) (k x y left : ℕ) : Type 0 where
+pub record Starting (from : ℕ → ℕ) (k x y left : ℕ) : Type 0 where
   pub stays : StaysBelow from left y
-  pub rest : back (at from) left y ≡ back (at from) k x
+  pub rest : back from left y ≡ back from k x
 
-pub starting : {from : List (List ℕ)} {k x : ℕ} → StaysBelow from k x → Starting from k x x k
+pub starting : {from : ℕ → ℕ} {k x : ℕ} → StaysBelow from k x → Starting from k x x k
 starting h = record { stays = h; rest = refl }
 
-module _ {from : List (List ℕ)} {k x y left : ℕ} (s : Starting from k x y left) where
+module _ {from : ℕ → ℕ} {k x y left : ℕ} (s : Starting from k x y left) where
   pub start-node : y < 3584
   start-node = s .stays 0 (omega arith)
 
-  start-next-at : (a : ℕ) → left ≡ suc a → (u : ℕ) → u ≡ at from y → Starting from k x u a
+  start-next-at : (a : ℕ) → left ≡ suc a → (u : ℕ) → u ≡ from y → Starting from k x u a
   start-next-at a e u ue =
       record {
-        stays = λ j l. subst (λ n. n < 3584) (sym (ap (back (at from) j) ue ∙ back-after (at from) j y)) (s .stays (suc j) (omega arith));
-        rest = ap (back (at from) a) ue ∙ back-after (at from) a y ∙ ap (λ n. back (at from) n y) (sym e) ∙ s .rest;
+        stays = λ j l. subst (λ n. n < 3584) (sym (ap (back from j) ue ∙ back-after from j y)) (s .stays (suc j) (omega arith));
+        rest = ap (back from a) ue ∙ back-after from a y ∙ ap (λ n. back from n y) (sym e) ∙ s .rest;
       }
 
-  pub start-next : 0 < left → (u : ℕ) → u ≡ at from y → Starting from k x u (left - 1)
+  pub start-next : 0 < left → (u : ℕ) → u ≡ from y → Starting from k x u (left - 1)
   start-next h = start-next-at (left - 1) (omega arith)
 
-  pub started : left ≤ 0 → y ≡ back (at from) k x
-  started h = let z : left ≡ 0 = omega arith in ap (λ n. back (at from) n y) (sym z) ∙ s .rest
+  pub started : left ≤ 0 → y ≡ back from k x
+  started h = let z : left ≡ 0 = omega arith in ap (λ n. back from n y) (sym z) ∙ s .rest
 
 -- The largest generation.
 
-module _ {generations link : List (List ℕ)} {v best : ℕ} (d : Deepest generations link v best) where
+module _ {generations : List (List ℕ)} {link : ℕ → ℕ} {v best : ℕ} (d : Deepest generations link v best) where
   pub deepest-node : best ≤ v
   deepest-node =
       by-cases (ℕ-discrete v 0) (λ (e : v ≡ 0). let z = d .none e in omega arith) (λ (e : v ≡ 0 → ⊥). let l = d .below (omega arith) in omega arith)
 
-  pub deepest-raised : weight (at link v) ≡ 1 → at generations best < at generations v → Deepest generations link (v + 1) v
+  pub deepest-raised : weight (link v) ≡ 1 → at generations best < at generations v → Deepest generations link (v + 1) v
   deepest-raised fresh h =
       record {
         below = λ p. omega arith;
         none = λ e. absurd (omega arith);
         made = λ p. fresh;
         largest =
-            below-more (λ u. weight (at link u) ≡ 1 → at generations u ≤ at generations v) v (λ u l w. let m = d .largest u l w in omega arith) (λ w. omega arith);
+            below-more (λ u. weight (link u) ≡ 1 → at generations u ≤ at generations v) v (λ u l w. let m = d .largest u l w in omega arith) (λ w. omega arith);
       }
 
-  pub deepest-same : (weight (at link v) ≡ 1 → at generations v ≤ at generations best) → Deepest generations link (v + 1) best
+  pub deepest-same : (weight (link v) ≡ 1 → at generations v ≤ at generations best) → Deepest generations link (v + 1) best
   deepest-same h =
       record {
         below = λ p. omega (arith, deepest-node);
         none = λ e. absurd (omega arith);
         made = d .made;
-        largest = below-more (λ u. weight (at link u) ≡ 1 → at generations u ≤ at generations best) v (d .largest) h;
+        largest = below-more (λ u. weight (link u) ≡ 1 → at generations u ≤ at generations best) v (d .largest) h;
       }
 
 -- Marks counted.
@@ -486,22 +486,22 @@ module _ (numbers : List ℕ) (room : ℕ) (answer : WriteAnswer) (e : writeSays
 
 module _
     (ways : List (List ℕ))
-    (raises : List (List (List ℕ)))
+    (raises : List (List ℕ))
     (before : List ℕ)
     (reaching links s x : ℕ)
     (room : 5 * (reaching + links) ≤ length before)
     {middle after : List ℕ}
     (way-is : middle ≡ putSteps before 0 (wayTo ways reaching s))
-    (line-is : after ≡ putSteps middle reaching (lineTo (at (fromOf raises)) (at (linkOf raises)) links x))
+    (line-is : after ≡ putSteps middle reaching (lineTo (fromOf raises) (linkOf raises) links x))
   where
-    both-put : after ≡ putSteps before 0 (wayTo ways reaching s ++ lineTo (at (fromOf raises)) (at (linkOf raises)) links x)
+    both-put : after ≡ putSteps before 0 (wayTo ways reaching s ++ lineTo (fromOf raises) (linkOf raises) links x)
     both-put =
         let way : List Step = wayTo ways reaching s in
-        let line : List Step = lineTo (at (fromOf raises)) (at (linkOf raises)) links x in
+        let line : List Step = lineTo (fromOf raises) (linkOf raises) links x in
         line-is
         ∙ ap (λ r. putSteps r reaching line) way-is
         ∙ put-after before 0 reaching way line (omega (arith, wayTo-length ways reaching s))
-        (omega (arith, length-line (at (fromOf raises)) (at (linkOf raises)) links x))
+        (omega (arith, length-line (fromOf raises) (linkOf raises) links x))
 
     pub wrote-endless : {count row : ℕ} → WayLength ways s reaching → TurnLength (fromOf raises) (7 * count) x links → row ≡ makerAt ways (wayBack ways reaching s)
         → s ≡ x / 7 → WroteEndless ways raises count x before row reaching links after
@@ -510,14 +510,14 @@ module _
           way = subst (λ y. WayLength ways y reaching) e way;
           turn = turn;
           first = first ∙ ap (λ y. makerAt ways (wayBack ways reaching y)) e;
-          steps = both-put ∙ ap (λ y. putSteps before 0 (wayTo ways reaching y ++ lineTo (at (fromOf raises)) (at (linkOf raises)) links x)) e;
+          steps = both-put ∙ ap (λ y. putSteps before 0 (wayTo ways reaching y ++ lineTo (fromOf raises) (linkOf raises) links x)) e;
         }
 
     pub wrote-settled : {generations : List (List ℕ)} {count row start : ℕ} → InLine generations (fromOf raises) (7 * count) x → LineLength generations (fromOf raises) (7 * count) x links
-        → start ≡ back (at (fromOf raises)) links x → s ≡ start / 7 → WayLength ways s reaching → row ≡ makerAt ways (wayBack ways reaching s)
+        → start ≡ back (fromOf raises) links x → s ≡ start / 7 → WayLength ways s reaching → row ≡ makerAt ways (wayBack ways reaching s)
         → WroteSettled ways generations raises count x before row (reaching + links) after
     wrote-settled inline line start-is s-is way first =
-        let e : s ≡ back (at (fromOf raises)) links x / 7 = s-is ∙ ap (λ y. y / 7) start-is in
+        let e : s ≡ back (fromOf raises) links x / 7 = s-is ∙ ap (λ y. y / 7) start-is in
         record {
           reaching = reaching;
           links = links;
@@ -526,5 +526,5 @@ module _
           way = subst (λ y. WayLength ways y reaching) e way;
           first = first ∙ ap (λ y. makerAt ways (wayBack ways reaching y)) e;
           counted = refl;
-          steps = both-put ∙ ap (λ y. putSteps before 0 (wayTo ways reaching y ++ lineTo (at (fromOf raises)) (at (linkOf raises)) links x)) e;
+          steps = both-put ∙ ap (λ y. putSteps before 0 (wayTo ways reaching y ++ lineTo (fromOf raises) (linkOf raises) links x)) e;
         }

@@ -64,7 +64,7 @@ pub too-many : (lines : List SheetLine) (numbers before : List ℕ) → sheetHel
 too-many lines numbers before sheet room m = (many lines room sheet (over (rulesOf lines) (rowsOf lines) 512 m), refl)
 
 -- The facts of a sheet, and the figures that every verdict has.
-module _ (lines : List SheetLine) (codes index : List ℕ) (ways : List (List ℕ)) (fired : List ℕ) (count : ℕ) (generations from link : List (List ℕ)) (turning : ℕ)
+module _ (lines : List SheetLine) (codes index : List ℕ) (ways : List (List ℕ)) (fired : List ℕ) (count : ℕ) (generations : List (List ℕ)) (from link : ℕ → ℕ) (turning : ℕ)
     (f : Facts lines codes index ways fired count generations from link turning)
     (numbers before now : List ℕ) (sheet : sheetHeld numbers ≡ good lines) (room : 20480 ≤ length before)
     (v : Verdict) (shapes-is : v .shapes ≡ count) (fired-is : v .fired ≡ onesIn (length (rulesOf lines)) fired)
@@ -120,14 +120,14 @@ module _ (lines : List SheetLine) (codes index : List ℕ) (ways : List (List �
   )
 
   settles-from : turning ≡ 0 → (x k w : ℕ) → Deepest generations link (7 * count) x → 0 < at generations x
-      → LineLength generations from (7 * count) x k → WayLength ways (back (at from) k x / 7) w
-      → v .verdict ≡ 1 → v .deepest ≡ at generations x → v .row ≡ makerAt ways (wayBack ways w (back (at from) k x / 7))
+      → LineLength generations from (7 * count) x k → WayLength ways (back from k x / 7) w
+      → v .verdict ≡ 1 → v .deepest ≡ at generations x → v .row ≡ makerAt ways (wayBack ways w (back from k x / 7))
       → v .trail ≡ w + k → v .loop ≡ 0
-      → now ≡ putSteps before 0 (wayTo ways w (back (at from) k x / 7) ++ lineTo (at from) (at link) k x)
+      → now ≡ putSteps before 0 (wayTo ways w (back from k x / 7) ++ lineTo from link k x)
       → JudgeMeets 512 numbers before (judged v) now
   settles-from settled x k w deep raised size way verdict deepest row trail loop held =
-      let start : ℕ = back (at from) k x / 7 in
-      let steps : List Step = wayTo ways w start ++ lineTo (at from) (at link) k x in
+      let start : ℕ = back from k x / 7 in
+      let steps : List Step = wayTo ways w start ++ lineTo from link k x in
       let l = line-found lines codes index ways fired count generations from link turning f settled x k w raised deep size way in
       let c = settled-certificate rules rows list (at generations x) (makerAt ways (wayBack ways w start)) (l .row) steps (rows-of-tables lines)
       (list-closed lines codes index ways fired count generations from link turning f settled)
@@ -152,10 +152,10 @@ module _ (lines : List SheetLine) (codes index : List ℕ) (ways : List (List �
 
   -- It settles with a deepest generation above 0, which a line to node x makes.
   pub settles : turning ≡ 0 → (x k w start : ℕ) → Deepest generations link (7 * count) x → 0 < at generations x
-      → LineLength generations from (7 * count) x k → start ≡ back (at from) k x → WayLength ways (start / 7) w
+      → LineLength generations from (7 * count) x k → start ≡ back from k x → WayLength ways (start / 7) w
       → v .verdict ≡ 1 → v .deepest ≡ at generations x → v .row ≡ makerAt ways (wayBack ways w (start / 7))
       → v .trail ≡ w + k → v .loop ≡ 0
-      → now ≡ putSteps before 0 (wayTo ways w (start / 7) ++ lineTo (at from) (at link) k x)
+      → now ≡ putSteps before 0 (wayTo ways w (start / 7) ++ lineTo from link k x)
       → JudgeMeets 512 numbers before (judged v) now
   settles settled x k w start deep raised size start-is way verdict deepest row trail loop held =
       settles-from settled x k w deep raised size (rw start-is at way) verdict deepest (rw start-is at row) trail loop (rw start-is at held)
@@ -164,11 +164,11 @@ module _ (lines : List SheetLine) (codes index : List ℕ) (ways : List (List �
   pub endless : (y k w : ℕ) → turning ≡ suc y → TurnLength from (7 * count) y k → WayLength ways (y / 7) w
       → v .verdict ≡ 2 → v .deepest ≡ 0 → v .row ≡ makerAt ways (wayBack ways w (y / 7))
       → v .trail ≡ w → v .loop ≡ k
-      → now ≡ putSteps before 0 (wayTo ways w (y / 7) ++ lineTo (at from) (at link) k y)
+      → now ≡ putSteps before 0 (wayTo ways w (y / 7) ++ lineTo from link k y)
       → JudgeMeets 512 numbers before (judged v) now
   endless y k w turns size way verdict deepest row trail loop held =
       let ss : List Step = wayTo ways w (y / 7) in
-      let ts : List Step = lineTo (at from) (at link) k y in
+      let ts : List Step = lineTo from link k y in
       let l = loop-found lines codes index ways fired count generations from link turning f y turns k w size way in
       let c = endless-certificate rules rows (makerAt ways (wayBack ways w (y / 7))) (l .row) ss ts (l .named) (l .way) (l .loop) in (
         room,

@@ -18,22 +18,22 @@ module _ (F : ℕ → ℕ) where
   back-add (suc a) b x = ap (λ (k : ℕ). back F k x) (let q : suc a + b ≡ suc (a + b) = omega arith in q) ∙ ap F (back-add a b x)
 
 -- The walk is k links back from x, at y.
-pub record Going (n : ℕ) (g from : List (List ℕ)) (x y k : ℕ) : Type 0 where
+pub record Going (n : ℕ) (g : List (List ℕ)) (from : ℕ → ℕ) (x y k : ℕ) : Type 0 where
   pub few : k ≤ n
   pub node : y < n
-  pub here : y ≡ back (at from) k x
-  pub long : Long (at g) (at from) k x
+  pub here : y ≡ back from k x
+  pub long : Long (at g) from k x
 
-pub going : {n : ℕ} {g from : List (List ℕ)} {x : ℕ} → Inside n g from x → Going n g from x x 0
+pub going : {n : ℕ} {g : List (List ℕ)} {from : ℕ → ℕ} {x : ℕ} → Inside n g from x → Going n g from x x 0
 unfolding Long
 going i = record { few = omega arith; node = i .node; here = refl; long = λ j l. let y : ⊥ = omega arith in absurd y }
 
-module _ {n : ℕ} {g from : List (List ℕ)} {x y k : ℕ} (i : Inside n g from x) (o : Going n g from x y k) where
-  pub further : (z : ℕ) → k < n → (at g y ≡ 0 → ⊥) → z ≡ at from y → Going n g from x z (k + 1)
+module _ {n : ℕ} {g : List (List ℕ)} {from : ℕ → ℕ} {x y k : ℕ} (i : Inside n g from x) (o : Going n g from x y k) where
+  pub further : (z : ℕ) → k < n → (at g y ≡ 0 → ⊥) → z ≡ from y → Going n g from x z (k + 1)
   unfolding Long
   further z l d e =
-      let h : z ≡ back (at from) (k + 1) x = rw add-one (e ∙ ap (at from) (o .here)) in
-      let m : Long (at g) (at from) (k + 1) x = below-more _ k (o .long) (rw (← o .here) (omega arith)) in
+      let h : z ≡ back from (k + 1) x = rw add-one (e ∙ ap from (o .here)) in
+      let m : Long (at g) from (k + 1) x = below-more _ k (o .long) (rw (← o .here) (omega arith)) in
       record { few = omega arith; node = rw h (i .below (k + 1) m); here = h; long = m }
 
   pub met : k < n → at g y ≡ 0 → Walked n g from x 0
@@ -50,7 +50,7 @@ module _ {n : ℕ} {g from : List (List ℕ)} {x y k : ℕ} (i : Inside n g from
       record {
         short = λ p. let y : ⊥ = omega arith in absurd y;
         long = λ _. (
-          ap (λ (v : ℕ). v + 1) (o .here ∙ ap (λ (k : ℕ). back (at from) k x) q),
-          subst (λ (k : ℕ). Long (at g) (at from) k x) q (o .long),
+          ap (λ (v : ℕ). v + 1) (o .here ∙ ap (λ (k : ℕ). back from k x) q),
+          subst (λ (k : ℕ). Long (at g) from k x) q (o .long),
         );
       }

@@ -2,12 +2,13 @@
 ghost use mathlib.Core.Path.{_≡_};
 ghost use mathlib.Core.List.{[], _∷_};
 ghost use Prim.Native.Nat.{_+_, _*_, _<_};
-ghost use Rattle.judging.specs.inner.Nodes.{at, put, Grid, Zeros, RaiseGrid, fromOf, linkOf, putRaise};
+ghost use lib.ListN.{length};
+ghost use Rattle.judging.specs.inner.Nodes.{at, put, Grid, Zeros, fromOf, linkOf, putRaise};
 
 // A number for each node.
 pub(crate) type Numbers = [[u16; 7]; 512];
 // How each node was raised last: the node that it was raised from, and the code of the link.
-pub(crate) type Raises = [[[u16; 2]; 7]; 512];
+pub(crate) type Raises = [[u16; 2]; 3584];
 
 // 512 times seven zeros.
 pub(crate) fn no_numbers() -> Numbers
@@ -18,9 +19,9 @@ pub(crate) fn no_numbers() -> Numbers
 
 // No node was raised.
 pub(crate) fn no_raises() -> Raises
-    ensures { λ r. ⌜ RaiseGrid r ⌝ }
+    ensures { λ r. ⌜ length r ≡ 3584 ⌝ }
 {
-    [[[0u16; 2]; 7]; 512]
+    [[0u16; 2]; 3584]
 }
 
 // The number of node v.
@@ -36,21 +37,17 @@ pub(crate) fn number(g: &Numbers, v: usize) -> u16
 // The node that node v was raised from.
 pub(crate) fn from_of(raises: &Raises, v: usize) -> u16
     requires { ⌜ v < 3584 ⌝ }
-    ensures { λ r. ⌜ r ≡ at (fromOf (now (raises .entry))) v ⌝ }
+    ensures { λ r. ⌜ r ≡ fromOf (now (raises .entry)) v ⌝ }
 {
-    let s = v / 7;
-    let i = v % 7;
-    raises[s][i][0]
+    raises[v][0]
 }
 
 // The code of the link by which node v was raised.
 pub(crate) fn link_of(raises: &Raises, v: usize) -> u16
     requires { ⌜ v < 3584 ⌝ }
-    ensures { λ r. ⌜ r ≡ at (linkOf (now (raises .entry))) v ⌝ }
+    ensures { λ r. ⌜ r ≡ linkOf (now (raises .entry)) v ⌝ }
 {
-    let s = v / 7;
-    let i = v % 7;
-    raises[s][i][1]
+    raises[v][1]
 }
 
 // Field p of shape s.
@@ -74,5 +71,5 @@ pub(crate) fn put_raise(raises: &mut Raises, s: usize, p: usize, u: u16, link: u
     requires { ⌜ (s < 512) × (p < 7) ⌝ }
     ensures { λ _. ⌜ now (raises .exit) ≡ putRaise (now (raises .entry)) (7 * s + p) u link ⌝ }
 {
-    raises[s][p] = [u, link];
+    raises[7 * s + p] = [u, link];
 }

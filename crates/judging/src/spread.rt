@@ -8,7 +8,7 @@ ghost use mathlib.Core.List.{[]};
 ghost use Prim.Native.Nat.{ℕ, _+_, _*_, _≤_, _<_};
 ghost use lib.ListN.{length, getD};
 ghost use Rattle.judging.specs.inner.Table.{tableRules, rowBytes};
-ghost use Rattle.judging.specs.inner.Nodes.{Grid, Zeros, RaiseGrid, fromOf, linkOf};
+ghost use Rattle.judging.specs.inner.Nodes.{Grid, Zeros, fromOf, linkOf};
 ghost use Rattle.judging.specs.inner.Links.{Spreads, turningNumber, hasTurn};
 ghost use Rattle.judging.specs.inner.Noted.{NoteFits, NoteLink, NotesLink};
 ghost use Rattle.judging.specs.inner.Order.{Ordered};
@@ -383,7 +383,7 @@ pub(crate) fn spread(
     generations: &mut Numbers,
     raises: &mut Raises,
 ) -> Turning
-    requires { ⌜ Ground (now table) rules (now kinds) (now shapes) (now index) (now notes) (now starts) count × Zeros (now generations) × RaiseGrid (now raises) ⌝ }
+    requires { ⌜ Ground (now table) rules (now kinds) (now shapes) (now index) (now notes) (now starts) count × Zeros (now generations) × (length (now raises) ≡ 3584) ⌝ }
     ensures { λ r. ⌜ Spreads (tableRules (now (table .entry)) rules) (now (shapes .entry)) count (now (generations .exit)) (fromOf (now (raises .exit))) (linkOf (now (raises .exit))) (turningNumber r) ⌝ }
 {
     let n = 7 * count;

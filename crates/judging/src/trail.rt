@@ -65,7 +65,7 @@ pub(crate) fn put_way(
 // Puts k steps after step `first`: the links that lead to node x, the last one last.
 pub(crate) fn put_links(steps: &mut [u16], first: usize, k: usize, raises: &Raises, x: usize)
     requires { ⌜ StaysBelow (fromOf (now raises)) k x × (5 * (first + k) ≤ length (now steps)) ⌝ }
-    ensures { λ _. ⌜ now (steps .exit) ≡ putSteps (now (steps .entry)) first (lineTo (at (fromOf (now (raises .entry)))) (at (linkOf (now (raises .entry)))) k x) ⌝ }
+    ensures { λ _. ⌜ now (steps .exit) ≡ putSteps (now (steps .entry)) first (lineTo (fromOf (now (raises .entry))) (linkOf (now (raises .entry))) k x) ⌝ }
 {
     let mut y = x;
     let mut left = k;
@@ -89,7 +89,7 @@ pub(crate) fn put_links(steps: &mut [u16], first: usize, k: usize, raises: &Rais
 // The node that lies k links back from node x.
 pub(crate) fn line_start(k: usize, raises: &Raises, x: usize) -> usize
     requires { ⌜ StaysBelow (fromOf (now raises)) k x ⌝ }
-    ensures { λ r. ⌜ r ≡ back (at (fromOf (now (raises .entry)))) k x ⌝ }
+    ensures { λ r. ⌜ r ≡ back (fromOf (now (raises .entry))) k x ⌝ }
 {
     let mut y = x;
     let mut left = k;

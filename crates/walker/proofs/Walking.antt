@@ -1,12 +1,12 @@
 -- The laws of a text's lines: how a search along the text finds a line's end, and that the part from `at` to that end is the line. Assumes nothing.
-use mathlib.Core.Path.{_≡_, refl, sym, _∙_}
+use mathlib.Core.Path.{_≡_, refl, sym, ap, _∙_}
 use mathlib.Core.Logic.{⊎-elim, by-cases}
 use Prim.Native.Nat.{ℕ, zero, suc, _+_, _-_, _<_, _≤_}
 use native.Mathlib.Nat.{add-zero, eq-or-lt-of-le}
 use native.Mathlib.Decide.{decLt}
 use native.Mathlib.Numerals.{add-one}
 use native.Mathlib.Omega.{arith}
-use mathlib.Core.Bool.{Bool, true, false}
+use mathlib.Core.Bool.{Bool, true, false, not, _&&_, false≢true}
 use mathlib.Core.List.{List, [], _∷_}
 use lib.Dec.{eqb}
 use lib.ListN.{length, getD, take, drop, length-drop, drop-of-length-le}
@@ -77,6 +77,11 @@ clear-more s i k clear ne = record {
   never = λ j low high is10. let near : j ≤ i + k = omega arith in ⊎-elim (λ here. ne (rw here at is10)) (λ less. clear .never j low less is10) (eq-or-lt-of-le near);
 }
 
+-- One byte more, tested.
+pub clear-tested : (s : List ℕ) (i k : ℕ) (t : Bool) → (t ≡ true → Clear s i (i + k)) → t && not (eqb (getD s (i + k) 0) 10) ≡ true → Clear s i (i + (k + 1))
+clear-tested s i k true clear e = clear-more s i k (clear refl) (λ is10. false≢true (sym (ap not (eq-eqb (getD s (i + k) 0) 10 is10)) ∙ e))
+clear-tested s i k false clear e = absurd (false≢true e)
+
 pub clear-join : (s : List ℕ) (i m e : ℕ) → Clear s i m → Clear s m e → Clear s i e
 clear-join s i m e front rest = record {
   ahead = omega (arith, front .ahead, rest .ahead);
@@ -100,13 +105,19 @@ module _ (s : List ℕ) (at e : ℕ) (ends : e ≡ lineEnd s at) where
   pub part-is-line : take (e - at) (drop at s) ≡ lineAt s at
   part-is-line = let n : e - at ≡ lineLength (drop at s) = omega arith in rw n
 
-  pub part-starts : at < e → at ≡ partStart at (lineLength (drop at s))
-  part-starts l = some (lineLength (drop at s)) (omega arith)
+  pub part-starts : (o : ℕ) → at < e → at + o ≡ partStart at (lineLength (drop at s)) + o
+  part-starts o l = some (lineLength (drop at s)) (omega arith)
     where
-      some : (k : ℕ) → 0 < k → at ≡ partStart at k
+      some : (k : ℕ) → 0 < k → at + o ≡ partStart at k + o
       some zero h = omega arith
       some (suc k) h = refl
 
   -- Where the end is no further than `at`, there is none.
   pub line-none : e ≤ at → lineLength (drop at s) ≡ 0
   line-none l = omega arith
+
+  pub part-none : e ≤ at → [] ≡ lineAt s at
+  part-none l = sym (ap (λ k. take k (drop at s)) (line-none l))
+
+  pub part-none-starts : (o : ℕ) → e ≤ at → 0 + o ≡ partStart at (lineLength (drop at s)) + o
+  part-none-starts o l = sym (ap (λ k. partStart at k + o) (line-none l))

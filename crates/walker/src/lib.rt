@@ -19,23 +19,21 @@ pub struct LineSpan {
     pub end: usize,
 }
 
-// Whether none of the 16 bytes at `i` is byte 10. The loop always makes all its turns, so it compiles to one wide comparison.
-fn clear16(text: &[u8], i: usize) -> bool
-    requires { ⌜ i + 16 ≤ length (now text) ⌝ }
-    ensures { λ r. ⌜ (r ≡ true → Clear (now (text .entry)) i (i + 16)) ⌝ }
+// Whether none of the eight bytes at `i` is byte 10. The loop always makes all its turns, so it compiles to one wide comparison.
+fn clear8(text: &[u8], i: usize) -> bool
+    requires { ⌜ i + 8 ≤ length (now text) ⌝ }
+    ensures { λ r. ⌜ (r ≡ true → Clear (now (text .entry)) i (i + 8)) ⌝ }
 {
     let mut clear = true;
     let mut k: usize = 0;
-    while k < 16 {
-        if text[i + k] == 10 {
-            clear = false;
-        }
+    while k < 8 {
+        clear = clear & (text[i + k] != 10);
         k += 1;
     }
     clear
 }
 
-// A place at or after `at` with no byte 10 between them: the first of the 16 bytes that hold one, or where fewer than 16 are left.
+// A place at or after `at` with no byte 10 between them: the first of eight bytes that hold one, or where fewer than 16 are left.
 fn skip(text: &[u8], at: usize) -> usize
     ensures { λ r. ⌜ Clear (now (text .entry)) at r ⌝ }
 {
@@ -45,8 +43,11 @@ fn skip(text: &[u8], at: usize) -> usize
     let last = text.len() - 16;
     let mut i = at;
     while i <= last {
-        if !clear16(text, i) {
+        if !clear8(text, i) {
             return i;
+        }
+        if !clear8(text, i + 8) {
+            return i + 8;
         }
         i += 16;
     }

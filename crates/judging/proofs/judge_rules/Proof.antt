@@ -59,7 +59,7 @@ settled-answer-requires c κs =
     let counted = c .before .before .before .before .before .before .before .before .before .before .before .before .before .before .before .before .counts .ensures in
     let known = subst (Known _ _ _ _ _ _ _) (sym (counted .1 .shapes-are)) (all-known (start .pre .0) (found .0) (start .pre .2) (start .pre .3) (c .before .before .before .before .before .before .before .before .before .before .before .before .before .before .before .before .before .if1 .left)) in
     let spreads = c .before .before .before .before .before .before .spread .ensures in
-    (writers-lent known _ spreads _ (start .pre .1), counted .0, spreads .grids .0, lines-lead known _ spreads (ap turningNumber (c .before .before .before .before .enum-told .given .1)))
+    (writers-lent known spreads _ (start .pre .1), counted .0, spreads .grid, lines-lead known spreads (ap turningNumber (c .before .before .before .before .enum-told .given .1)))
 
 enum-known-turning : tie.Need-enum-known-turning
 enum-known-turning c = search needs
@@ -71,8 +71,8 @@ endless-answer-requires c κs =
     let counted = c .before .before .before .before .before .before .before .before .before .before .before .before .before .before .before .before .counts .ensures in
     let known = subst (Known _ _ _ _ _ _ _) (sym (counted .1 .shapes-are)) (all-known (start .pre .0) (found .0) (start .pre .2) (start .pre .3) (c .before .before .before .before .before .before .before .before .before .before .before .before .before .before .before .before .before .if1 .left)) in
     let spreads = c .before .before .before .before .before .before .spread .ensures in
-    let turn = turns-back known _ spreads _ (ap turningNumber (c .before .before .before .before .turning .given .1)) in
-    (writers-lent known _ spreads _ (start .pre .1), counted .0, turn .0, turn .1)
+    let turn = turns-back known spreads _ (ap turningNumber (c .before .before .before .before .turning .given .1)) in
+    (writers-lent known spreads _ (start .pre .1), counted .0, turn .0, turn .1)
 
 same-length-2 : tie.Need-same-length-2
 same-length-2 c = search needs

@@ -10,7 +10,7 @@ use Rattle.judging.specs.inner.Table.{RuleFits}
 use Rattle.judging.specs.inner.Found.{Kept, Whole, FiredRules}
 use Rattle.judging.specs.inner.Links.{Spreads}
 
-pub record Facts (lines : List Line) (codes index : List ℕ) (ways : List (List ℕ)) (fired : List ℕ) (count : ℕ) (generations from link : List (List ℕ)) (turning : ℕ)
+pub record Facts (lines : List Line) (codes index : List ℕ) (ways : List (List ℕ)) (fired : List ℕ) (count : ℕ) (generations : List (List ℕ)) (from link : ℕ → ℕ) (turning : ℕ)
     : Type 0 where
   pub fit : All RuleFits (rulesOf lines)
   pub kept : Kept (rulesOf lines) (rowsOf lines) codes index ways count

@@ -36,7 +36,7 @@ pub record Counted (found : Found) (rules : ℕ) (f : Figures) : Type 0 where
   pub share-is : f .share ≡ share (f .fired) rules
 
 -- The answer where something turns, with the loop back to node y written.
-pub record SaysEndless (ways : List (List ℕ)) (raises : List (List (List ℕ))) (count y : ℕ) (counts : Figures) (before : List ℕ) (answer : JudgeAnswer) (after : List ℕ)
+pub record SaysEndless (ways raises : List (List ℕ)) (count y : ℕ) (counts : Figures) (before : List ℕ) (answer : JudgeAnswer) (after : List ℕ)
     : Type 0 where
   pub figures : Figures
   pub says : answer ≡ Endless figures
@@ -47,12 +47,12 @@ pub record SaysEndless (ways : List (List ℕ)) (raises : List (List (List ℕ))
   pub wrote : WroteEndless ways raises count y before (figures .row) (figures .trail) (figures .turns) after
 
 -- A line leads to each raised node.
-pub record Lines (generations from : List (List ℕ)) (count : ℕ) : Type 0 where
+pub record Lines (generations : List (List ℕ)) (from : ℕ → ℕ) (count : ℕ) : Type 0 where
   pub below : (x : ℕ) → 0 < at generations x → x < 7 * count
   pub lines : (x : ℕ) → 0 < at generations x → InLine generations from (7 * count) x
 
 -- The answer where nothing turns: nothing is written where no node was raised, and otherwise a line to a node where a number of the deepest generation is made.
-pub record SaysSettled (ways generations : List (List ℕ)) (raises : List (List (List ℕ))) (count : ℕ) (counts : Figures) (before : List ℕ) (answer : JudgeAnswer) (after : List ℕ)
+pub record SaysSettled (ways generations raises : List (List ℕ)) (count : ℕ) (counts : Figures) (before : List ℕ) (answer : JudgeAnswer) (after : List ℕ)
     : Type 0 where
   pub figures : Figures
   pub says : answer ≡ Settles figures

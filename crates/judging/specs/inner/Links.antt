@@ -67,10 +67,10 @@ hasTurn Nowhere = false
 hasTurn (At y) = true
 
 -- What raising the generations leaves. turning is 0 where all is settled, and otherwise one more than a node of a loop.
-pub record Spreads (rules : List Rule) (codes : List ℕ) (count : ℕ) (generations from link : List (List ℕ)) (turning : ℕ) : Type 0 where
-  pub grids : Grid generations × Grid from × Grid link
+pub record Spreads (rules : List Rule) (codes : List ℕ) (count : ℕ) (generations : List (List ℕ)) (from link : ℕ → ℕ) (turning : ℕ) : Type 0 where
+  pub grid : Grid generations
   pub settled : turning ≡ 0
       → Stable (Link rules codes count) (at generations)
-      × ((x : ℕ) → x < 7 * count → (k : ℕ) × (k < 7 * count) × Line (Link rules codes count) (at generations) (at from) (at link) k x (at generations x))
-  pub endless : (y : ℕ) → turning ≡ suc y → (y < 7 * count) × ((k : ℕ) × (k ≤ 7 * count) × Turn (Link rules codes count) (at from) (at link) k y)
+      × ((x : ℕ) → x < 7 * count → (k : ℕ) × (k < 7 * count) × Line (Link rules codes count) (at generations) from link k x (at generations x))
+  pub endless : (y : ℕ) → turning ≡ suc y → (y < 7 * count) × ((k : ℕ) × (k ≤ 7 * count) × Turn (Link rules codes count) from link k y)
   pub outside : (x : ℕ) → 7 * count ≤ x → at generations x ≡ 0

@@ -1,6 +1,6 @@
 -- Numbers for the fields of 512 shapes, seven for each, and walks back from node to node. Assumes nothing.
 use mathlib.Core.Path.{_≡_}
-use mathlib.Core.List.{List, [], _∷_, map}
+use mathlib.Core.List.{List, [], _∷_}
 use Prim.Native.Nat.{ℕ, zero, suc, _+_, _*_, _/_, _%_, _≤_, _<_}
 use lib.ListN.{length, getD, set}
 
@@ -21,19 +21,15 @@ pub record Zeros (g : List (List ℕ)) : Type 0 where
   pub grid : Grid g
   pub zero-at : (v : ℕ) → at g v ≡ 0
 
--- How each node was raised last, a row of two numbers for each: the node that it was raised from, and the code of the link. The grids of these numbers.
-unfoldable pub fromOf : List (List (List ℕ)) → List (List ℕ)
-fromOf raises = map (map (λ r. getD r 0 0)) raises
+-- How each node was raised last: a row of two numbers for each node, the node that it was raised from and the code of the link.
+abbrev pub fromOf : List (List ℕ) → ℕ → ℕ
+fromOf raises v = getD (getD raises v []) 0 0
 
-unfoldable pub linkOf : List (List (List ℕ)) → List (List ℕ)
-linkOf raises = map (map (λ r. getD r 1 0)) raises
+abbrev pub linkOf : List (List ℕ) → ℕ → ℕ
+linkOf raises v = getD (getD raises v []) 1 0
 
-unfoldable pub putRaise : List (List (List ℕ)) → ℕ → ℕ → ℕ → List (List (List ℕ))
-putRaise raises v u link = set raises (v / 7) (set (getD raises (v / 7) []) (v % 7) (u ∷ link ∷ []))
-
-pub record RaiseGrid (raises : List (List (List ℕ))) : Type 0 where
-  pub from : Grid (fromOf raises)
-  pub link : Grid (linkOf raises)
+abbrev pub putRaise : List (List ℕ) → ℕ → ℕ → ℕ → List (List ℕ)
+putRaise raises v u link = set raises v (u ∷ link ∷ [])
 
 -- The node that lies k links back from node x.
 abbrev pub back : (ℕ → ℕ) → ℕ → ℕ → ℕ

@@ -10,7 +10,7 @@ use Rattle.chase.specs.Rules.{Head, nth}
 use Rattle.chase.specs.Simplification.{Applies}
 use Rattle.judging.specs.inner.Table.{rowBytes, ruleIn}
 use Rattle.judging.specs.inner.Codes.{shapeAt, codeOf, shapeFrom}
-use Rattle.judging.specs.inner.Nodes.{at, Grid, RaiseGrid, fromOf, linkOf, back, weight}
+use Rattle.judging.specs.inner.Nodes.{at, Grid, fromOf, linkOf, back, weight}
 use Rattle.judging.specs.declared.spread.Raised.{Raised}
 use Rattle.judging.specs.declared.spread.Raised.the-variants.{Nothing, Node, Over}
 use Rattle.judging.specs.declared.spread.Source.{Source}
@@ -51,12 +51,12 @@ nodeOf (Node v) = v
 nodeOf (Over v) = v
 
 -- The state where there are n nodes.
-pub record Live (n : ℕ) (g : List (List ℕ)) (raises : List (List (List ℕ))) (waiting : List ℕ) (last : Raised) : Type 0 where
+pub record Live (n : ℕ) (g raises : List (List ℕ)) (waiting : List ℕ) (last : Raised) : Type 0 where
   pub grid : Grid g
-  pub raise-grid : RaiseGrid raises
+  pub raise-size : length raises ≡ 3584
   pub size : length waiting ≡ 512
   pub small : n ≤ 3584
-  pub timed : Timed (at g) (at (fromOf raises)) (at (linkOf raises))
+  pub timed : Timed (at g) (fromOf raises) (linkOf raises)
   pub node : 0 < changes last → nodeOf last < n
   pub low : (v : ℕ) → (overs last ≡ 1 → nodeOf last ≡ v → ⊥) → at g v ≤ n
   pub high : overs last ≡ 1 → n < at g (nodeOf last)
@@ -71,14 +71,14 @@ abbrev pub Rests : List (List ℕ) → List ℕ → ℕ → ℕ → ℕ → Type
 Rests g waiting u v code = (getD waiting (u / 7) 0 ≡ 1) ⊎ (at g u + weight code ≤ at g v)
 
 -- A node is as it was.
-pub record Same (g₀ : List (List ℕ)) (raises₀ : List (List (List ℕ))) (g : List (List ℕ)) (raises : List (List (List ℕ))) (v : ℕ) : Type 0 where
+pub record Same (g₀ raises₀ g raises : List (List ℕ)) (v : ℕ) : Type 0 where
   pub high : at g v ≡ at g₀ v
-  pub from-is : at (fromOf raises) v ≡ at (fromOf raises₀) v
-  pub link-is : at (linkOf raises) v ≡ at (linkOf raises₀) v
+  pub from-is : fromOf raises v ≡ fromOf raises₀ v
+  pub link-is : linkOf raises v ≡ linkOf raises₀ v
 
 -- The links of P were followed.
-pub record Done (n : ℕ) (P : ℕ → ℕ → ℕ → Type 0) (g₀ : List (List ℕ)) (raises₀ : List (List (List ℕ))) (waiting₀ : List ℕ) (last₀ : Raised)
-    (g : List (List ℕ)) (raises : List (List (List ℕ))) (waiting : List ℕ) (last : Raised) : Type 0 where
+pub record Done (n : ℕ) (P : ℕ → ℕ → ℕ → Type 0) (g₀ raises₀ : List (List ℕ)) (waiting₀ : List ℕ) (last₀ : Raised)
+    (g raises : List (List ℕ)) (waiting : List ℕ) (last : Raised) : Type 0 where
   pub live : Live n g raises waiting last
   pub begun : changes last ≡ 0 → changes last₀ ≡ 0
   pub still : changes last ≡ 0 → waiting ≡ waiting₀
@@ -87,17 +87,17 @@ pub record Done (n : ℕ) (P : ℕ → ℕ → ℕ → Type 0) (g₀ : List (Lis
   pub grown : sumTo n (at g₀) ≤ sumTo n (at g)
   pub more : changes last₀ ≡ 0 → 0 < changes last → sumTo n (at g₀) < sumTo n (at g)
   pub going : overs last ≡ 0 → overs last₀ ≡ 0
-  pub edges : (v : ℕ) → Same g₀ raises₀ g raises v ⊎ P (at (fromOf raises) v) v (at (linkOf raises) v)
+  pub edges : (v : ℕ) → Same g₀ raises₀ g raises v ⊎ P (fromOf raises v) v (linkOf raises v)
 
 -- The waiting shapes' links were followed, those of E in all.
-pub record Swept (n : ℕ) (E : ℕ → ℕ → ℕ → Type 0) (s : ℕ) (g₀ : List (List ℕ)) (raises₀ : List (List (List ℕ))) (g : List (List ℕ)) (raises : List (List (List ℕ)))
+pub record Swept (n : ℕ) (E : ℕ → ℕ → ℕ → Type 0) (s : ℕ) (g₀ raises₀ g raises : List (List ℕ))
     (waiting : List ℕ) (last : Raised) : Type 0 where
   pub live : Live n g raises waiting last
   pub rests : overs last ≡ 0 → (u v code : ℕ) → E u v code → Rests g waiting u v code
   pub clear : changes last ≡ 0 → (x : ℕ) → x < s → getD waiting x 0 ≡ 1 → ⊥
   pub grown : sumTo n (at g₀) ≤ sumTo n (at g)
   pub more : 0 < changes last → sumTo n (at g₀) < sumTo n (at g)
-  pub edges : (v : ℕ) → Same g₀ raises₀ g raises v ⊎ E (at (fromOf raises) v) v (at (linkOf raises) v)
+  pub edges : (v : ℕ) → Same g₀ raises₀ g raises v ⊎ E (fromOf raises v) v (linkOf raises v)
 
 -- One link.
 pub record Just (x y z u v code : ℕ) : Type 0 where
@@ -183,14 +183,13 @@ unfoldable pub Long : (ℕ → ℕ) → (ℕ → ℕ) → ℕ → ℕ → Type 0
 Long G F k x = (j : ℕ) → j < k → 0 < G (back F j x)
 
 -- A walk back from x stays below n until it meets a node of generation 0.
-pub record Inside (n : ℕ) (g from : List (List ℕ)) (x : ℕ) : Type 0 where
+pub record Inside (n : ℕ) (g : List (List ℕ)) (from : ℕ → ℕ) (x : ℕ) : Type 0 where
   pub grid : Grid g
-  pub grid-from : Grid from
   pub node : x < n
   pub small : n ≤ 3584
-  pub below : (k : ℕ) → Long (at g) (at from) k x → back (at from) k x < n
+  pub below : (k : ℕ) → Long (at g) from k x → back from k x < n
 
 -- What a walk back of n links from x finds: r is 0 where a node of generation 0 was met, and otherwise one more than the node it comes to.
-pub record Walked (n : ℕ) (g from : List (List ℕ)) (x r : ℕ) : Type 0 where
-  pub short : r ≡ 0 → (k : ℕ) × (k < n) × Long (at g) (at from) k x × (at g (back (at from) k x) ≡ 0)
-  pub long : 0 < r → (r ≡ back (at from) n x + 1) × Long (at g) (at from) n x
+pub record Walked (n : ℕ) (g : List (List ℕ)) (from : ℕ → ℕ) (x r : ℕ) : Type 0 where
+  pub short : r ≡ 0 → (k : ℕ) × (k < n) × Long (at g) from k x × (at g (back from k x) ≡ 0)
+  pub long : 0 < r → (r ≡ back from n x + 1) × Long (at g) from n x

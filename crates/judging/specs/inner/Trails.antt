@@ -13,19 +13,19 @@ pub record Lent (steps : List ℕ) (ways : List (List ℕ)) (count : ℕ) : Type
   pub room : 20480 ≤ length steps
 
 -- The way to node y's shape and then the loop back to y are written.
-pub record WroteEndless (ways : List (List ℕ)) (raises : List (List (List ℕ))) (count y : ℕ) (before : List ℕ) (row trail turns : ℕ) (after : List ℕ) : Type 0 where
+pub record WroteEndless (ways raises : List (List ℕ)) (count y : ℕ) (before : List ℕ) (row trail turns : ℕ) (after : List ℕ) : Type 0 where
   pub way : WayLength ways (y / 7) trail
   pub turn : TurnLength (fromOf raises) (7 * count) y turns
   pub first : row ≡ makerAt ways (wayBack ways trail (y / 7))
-  pub steps : after ≡ putSteps before 0 (wayTo ways trail (y / 7) ++ lineTo (at (fromOf raises)) (at (linkOf raises)) turns y)
+  pub steps : after ≡ putSteps before 0 (wayTo ways trail (y / 7) ++ lineTo (fromOf raises) (linkOf raises) turns y)
 
 -- The way to the shape where the line to node x begins and then that line are written.
-pub record WroteSettled (ways generations : List (List ℕ)) (raises : List (List (List ℕ))) (count x : ℕ) (before : List ℕ) (row trail : ℕ) (after : List ℕ) : Type 0 where
+pub record WroteSettled (ways generations raises : List (List ℕ)) (count x : ℕ) (before : List ℕ) (row trail : ℕ) (after : List ℕ) : Type 0 where
   pub reaching : ℕ
   pub links : ℕ
   pub line : LineLength generations (fromOf raises) (7 * count) x links
-  pub start-below : back (at (fromOf raises)) links x < 7 * count
-  pub way : WayLength ways (back (at (fromOf raises)) links x / 7) reaching
-  pub first : row ≡ makerAt ways (wayBack ways reaching (back (at (fromOf raises)) links x / 7))
+  pub start-below : back (fromOf raises) links x < 7 * count
+  pub way : WayLength ways (back (fromOf raises) links x / 7) reaching
+  pub first : row ≡ makerAt ways (wayBack ways reaching (back (fromOf raises) links x / 7))
   pub counted : trail ≡ reaching + links
-  pub steps : after ≡ putSteps before 0 (wayTo ways reaching (back (at (fromOf raises)) links x / 7) ++ lineTo (at (fromOf raises)) (at (linkOf raises)) links x)
+  pub steps : after ≡ putSteps before 0 (wayTo ways reaching (back (fromOf raises) links x / 7) ++ lineTo (fromOf raises) (linkOf raises) links x)

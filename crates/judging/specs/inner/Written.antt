@@ -56,40 +56,40 @@ abbrev pub oneStep : ℕ → ℕ → ℕ → ℕ → ℕ → List Step
 oneStep rule head from to fresh = record { rule = rule; head = head; from = from; to = to; fresh = fresh } ∷ []
 
 -- The nodes of k links back from x are all within the grid.
-abbrev pub StaysBelow : List (List ℕ) → ℕ → ℕ → Type 0
-StaysBelow from k x = (j : ℕ) → j ≤ k → back (at from) j x < 3584
+abbrev pub StaysBelow : (ℕ → ℕ) → ℕ → ℕ → Type 0
+StaysBelow from k x = (j : ℕ) → j ≤ k → back from j x < 3584
 
 -- A node of the largest generation among those of the first n whose link is fresh; node 0, which is no field, where there is none.
-pub record Deepest (generations link : List (List ℕ)) (n x : ℕ) : Type 0 where
+pub record Deepest (generations : List (List ℕ)) (link : ℕ → ℕ) (n x : ℕ) : Type 0 where
   pub below : 0 < n → x < n
   pub none : n ≡ 0 → x ≡ 0
-  pub made : 0 < x → weight (at link x) ≡ 1
-  pub largest : (v : ℕ) → v < n → weight (at link v) ≡ 1 → at generations v ≤ at generations x
+  pub made : 0 < x → weight (link x) ≡ 1
+  pub largest : (v : ℕ) → v < n → weight (link v) ≡ 1 → at generations v ≤ at generations x
 
 -- Some links lead back from y to itself, all within the first n nodes.
-pub record InTurn (from : List (List ℕ)) (n y : ℕ) : Type 0 where
+pub record InTurn (from : ℕ → ℕ) (n y : ℕ) : Type 0 where
   pub period : ℕ
   pub some : 0 < period
   pub few : period ≤ n
-  pub closes : back (at from) period y ≡ y
-  pub nodes : (k : ℕ) → back (at from) k y < n
+  pub closes : back from period y ≡ y
+  pub nodes : (k : ℕ) → back from k y < n
 
 -- k is the smallest such number.
-pub record TurnLength (from : List (List ℕ)) (n y k : ℕ) : Type 0 where
+pub record TurnLength (from : ℕ → ℕ) (n y k : ℕ) : Type 0 where
   pub some : 0 < k
   pub few : k ≤ n
-  pub closes : back (at from) k y ≡ y
-  pub first : (j : ℕ) → 0 < j → j < k → back (at from) j y ≡ y → ⊥
+  pub closes : back from k y ≡ y
+  pub first : (j : ℕ) → 0 < j → j < k → back from j y ≡ y → ⊥
 
 -- Some links lead back from x to a node of generation 0, all within the first n nodes.
-pub record InLine (generations from : List (List ℕ)) (n x : ℕ) : Type 0 where
+pub record InLine (generations : List (List ℕ)) (from : ℕ → ℕ) (n x : ℕ) : Type 0 where
   pub steps : ℕ
   pub few : steps < n
-  pub ends : at generations (back (at from) steps x) ≡ 0
-  pub nodes : (j : ℕ) → j ≤ steps → back (at from) j x < n
+  pub ends : at generations (back from steps x) ≡ 0
+  pub nodes : (j : ℕ) → j ≤ steps → back from j x < n
 
 -- k is the smallest number of such links.
-pub record LineLength (generations from : List (List ℕ)) (n x k : ℕ) : Type 0 where
+pub record LineLength (generations : List (List ℕ)) (from : ℕ → ℕ) (n x k : ℕ) : Type 0 where
   pub few : k < n
-  pub ends : at generations (back (at from) k x) ≡ 0
-  pub high : (j : ℕ) → j < k → 0 < at generations (back (at from) j x)
+  pub ends : at generations (back from k x) ≡ 0
+  pub high : (j : ℕ) → j < k → 0 < at generations (back from j x)

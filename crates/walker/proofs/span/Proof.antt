@@ -27,10 +27,10 @@ returns c =
     span-stays _ (turn .before .loop .n) _ _ _ (turn .loop-test .taken) (turn .before .loop .inv .2) (c .before .moved-from .ensures) (c .if1 .taken)
 
 add-n : tie.Need-add-n Inv-loop μ-loop
-add-n c = search needs
+add-n c = omega arith
 
 loop-less : tie.Need-loop-less Inv-loop μ-loop
-loop-less c = search needs
+loop-less c = omega arith
 
 loop-again : tie.Need-loop-again Inv-loop μ-loop
 loop-again c = let inv = c .before .before .before .loop .inv in (omega arith, rw add-one (inv .2), rw (add-one, ← inv .2) (c .before .moved-from .ensures))
