@@ -3,9 +3,9 @@ use mathlib.Core.Path.{_≡_, refl, sym, ap, _∙_}
 use mathlib.Core.List.{List, [], _∷_, _++_, append-assoc, append-nil}
 use Prim.Native.Nat.{ℕ, zero, suc, _+_, _*_, _/_, _%_, _<_, _≤_}
 use native.Mathlib.Nat.{mul-suc, mul-zero, mul-le-mul-left, div-div-eq-div-mul}
-use native.Mathlib.Numerals.{add-one}
+use native.Mathlib.Numerals.{add-one, add-two, add-three}
 use native.Mathlib.Omega.{arith}
-use lib.ListN.{length, getD, take, drop, length-append}
+use lib.ListN.{length, getD, set, take, drop, length-append}
 use lib.Seq.{sets, sets-eq, length-sets, take-suc, drop-cons, drop-drop, drop-append-add, take-at, length-take-le}
 use Rattle.followup.specs.Bytes.{number, numbersFrom, bytesOf, allBytes}
 
@@ -45,6 +45,18 @@ pub number-more :
 number-more w bytes at next e h =
     ap (λ l. number (take (suc w) l)) (drop-cons bytes at 0 h)
     ∙ ap (λ k. getD bytes at 0 + 256 * number (take w (drop k bytes))) (sym (e ∙ add-one at))
+
+-- Four bytes are twice two.
+pub number-halves : (bytes : List ℕ) (at : ℕ) → at + 4 ≤ length bytes
+    → number (take 4 (drop at bytes)) ≡ number (take 2 (drop at bytes)) + 65536 * number (take 2 (drop (at + 2) bytes))
+number-halves bytes at h =
+    omega (
+      arith,
+      number-more 3 bytes at (at + 1) (omega arith) (omega arith),
+      number-more 2 bytes (at + 1) (at + 2) (omega arith) (omega arith),
+      number-more 1 bytes at (at + 1) (omega arith) (omega arith),
+      number-more 0 bytes (at + 1) (at + 2) (omega arith) (omega arith),
+    )
 
 pub length-numbersFrom : (w n : ℕ) (bytes : List ℕ) → length (numbersFrom w n bytes) ≡ n
 length-numbersFrom w zero bytes = refl
@@ -106,7 +118,7 @@ module _ {w : ℕ} {numbers before : List ℕ} {n : ℕ} where
   encoding-begun lent room = record { upto = omega arith; lent = lent; room = room; filled = filled-none before }
 
   -- One number more.
-  pub encoding-more :
+  encoding-more :
       {after : List ℕ} {i : ℕ} {bytes : List ℕ} → bytes ≡ bytesOf w (getD numbers i 0) → i < n → Encoding w numbers before n after i
       → Encoding w numbers before n (sets after (w * i) bytes) (i + 1)
   encoding-more {after} {i} {bytes} is h e =
@@ -126,7 +138,22 @@ module _ {w : ℕ} {numbers before : List ℕ} {n : ℕ} where
       e .filled .same ∙ rw (all, length-encoded w n numbers (e .lent))
 
 -- The bytes of a number that has four, each by one division.
-pub four-bytes : (v : ℕ) → v % 256 ∷ v / 256 % 256 ∷ v / 65536 % 256 ∷ v / 16777216 % 256 ∷ [] ≡ bytesOf 4 v
+four-bytes : (v : ℕ) → v % 256 ∷ v / 256 % 256 ∷ v / 65536 % 256 ∷ v / 16777216 % 256 ∷ [] ≡ bytesOf 4 v
 four-bytes v =
     let third : v / 65536 ≡ v / 256 / 256 = sym (div-div-eq-div-mul v 256 256) in
     rw (third, sym (div-div-eq-div-mul v 65536 256), third)
+
+-- One number of four bytes more, byte by byte.
+pub encoding-four : {numbers before : List ℕ} {n : ℕ} {after : List ℕ} {i : ℕ} → i < n → Encoding 4 numbers before n after i
+    → Encoding 4 numbers before n
+    (set
+    (set (set (set after (4 * i) (getD numbers i 0 % 256)) (4 * i + 1) (getD numbers i 0 / 256 % 256)) (4 * i + 2) (getD numbers i 0 / 65536 % 256))
+    (4 * i + 3)
+    (getD numbers i 0 / 16777216 % 256))
+    (i + 1)
+encoding-four {i = i} h e = rw (add-one (4 * i), add-two (4 * i), add-three (4 * i)) (encoding-more (four-bytes _) h e)
+
+-- One number of two bytes more, byte by byte.
+pub encoding-two : {numbers before : List ℕ} {n : ℕ} {after : List ℕ} {i : ℕ} → i < n → Encoding 2 numbers before n after i
+    → Encoding 2 numbers before n (set (set after (2 * i) (getD numbers i 0 % 256)) (2 * i + 1) (getD numbers i 0 / 256 % 256)) (i + 1)
+encoding-two {i = i} h e = rw (add-one (2 * i)) (encoding-more refl h e)

@@ -1,5 +1,5 @@
 -- Lent steps as bytes: what judging puts at their front, and the rest as it was. Assumes nothing.
-use mathlib.Core.Path.{_≡_, refl, sym, ap, ap₂, _∙_}
+use mathlib.Core.Path.{_≡_, refl, sym, subst, ap, ap₂, _∙_}
 use mathlib.Core.List.{List, [], _∷_, _++_, append-assoc}
 use Prim.Native.Nat.{ℕ, zero, suc, _+_, _-_, _*_, _/_, _%_, _≤_, _<_}
 use native.Mathlib.Omega.{arith}
@@ -90,13 +90,13 @@ module _ (numbers before : List ℕ) (b : Bytes before) (room : 20480 ≤ length
   lent : 20480 ≤ length (numbersOf 2 before)
   lent = omega (arith, length-numbersFrom 2 (length before / 2) before)
 
-  pub judges : {own written after : List ℕ} (v : Verdict) (r : JudgeReply) → Right shapeLimit numbers own v written
-      → after ≡ allBytes 2 (take (5 * (v .trail + v .loop)) written) ++ drop (2 * (5 * (v .trail + v .loop))) before
-      → JudgeReplies (judged v) r → JudgesNumbers numbers before r after
-  judges {own} {written} {after} v r right is says =
+  judges-right : {own written after : List ℕ} (v : Verdict) (r : JudgeReply) → Right shapeLimit numbers own v written → JudgeReplies (judged v) r
+      → after ≡ allBytes 2 (take (5 * r .trail + 5 * r .«loop_steps») written) ++ drop (2 * (5 * r .trail + 5 * r .«loop_steps»)) before
+      → JudgesNumbers numbers before r after
+  judges-right {own} {written} {after} v r right says is =
       let new : List ℕ = stepNumbers (right .steps) in
       let size : length new ≡ 5 * length (right .steps) = length-numbers (right .steps) in
-      let count : 5 * (v .trail + v .loop) ≡ length new = omega (arith, right .count, size) in
+      let count : 5 * r .trail + 5 * r .«loop_steps» ≡ length new = omega (arith, right .count, size, says .8, says .9) in
       let wrote : take (length new) written ≡ new = ap (take (length new)) (right .held) ∙ take-at new (drop (5 * length (right .steps)) own) (length new) refl in
       record {
         judgement = judged v;
@@ -131,9 +131,21 @@ module _ (numbers before : List ℕ) (b : Bytes before) (room : 20480 ≤ length
   refuses-lent n k h (wrong line _ is) = wrong line lent is
   refuses-lent n k h (many ls _ is more) = many ls lent is more
 
-  pub judges-none : {own : List ℕ} (n k : ℕ) (r : JudgeReply) → 20480 ≤ length own → Refuses shapeLimit numbers own n k
-      → JudgeReplies (refuses n k) r → JudgesNumbers numbers before r before
-  judges-none n k r h why says = unchanged (JudgeMeets shapeLimit numbers (numbersOf 2 before)) before b n k r (refuses-lent n k h why, refl) says
+  pub judges : {after : List ℕ} (own written : List ℕ) (j : Judgement) (r : JudgeReply) → 20480 ≤ length own → JudgeMeets shapeLimit numbers own j written → JudgeReplies j r
+      → after ≡ allBytes 2 (take (5 * r .trail + 5 * r .«loop_steps») written) ++ drop (2 * (5 * r .trail + 5 * r .«loop_steps»)) before
+      → JudgesNumbers numbers before r after
+  judges own written (judged v) r h m says is = judges-right v r (m .1) says is
+  judges own written (refuses n k) r h m says is =
+      let none : 5 * r .trail + 5 * r .«loop_steps» ≡ 0 = omega (arith, says .8, says .9) in
+      let same = is ∙ ap (λ (m : ℕ). allBytes 2 (take m written) ++ drop (2 * m) before) none in
+      subst (JudgesNumbers numbers before r) (sym same)
+      (unchanged (JudgeMeets shapeLimit numbers (numbersOf 2 before)) before b n k r (refuses-lent n k h (m .0), refl) says)
+
+-- At most 4,096 steps are counted.
+pub steps-few : (numbers own written : List ℕ) (j : Judgement) (r : JudgeReply) → JudgeMeets shapeLimit numbers own j written → JudgeReplies j r
+    → r .trail + r .«loop_steps» ≤ 4096
+steps-few numbers own written (judged v) r m says = omega (arith, m .1 .room, says .8, says .9)
+steps-few numbers own written (refuses n k) r m says = omega (arith, says .8, says .9)
 
 -- Fewer than 4,096 steps.
 few-steps : (before : List ℕ) → length before / 2 < 20480 → length (numbersOf 2 before) < 20480

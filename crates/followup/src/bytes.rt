@@ -5,10 +5,14 @@ ghost use Prim.Native.Nat.{_+_, _*_, _≤_};
 ghost use lib.ListN.{length, take, drop};
 ghost use Rattle.followup.specs.Bytes.{number, numbersFrom, allBytes};
 
-fn wide(b: u8) -> u32
-    ensures { λ r. ⌜ r ≡ b ⌝ }
+// The u16 at byte `at`.
+fn u16_at(bytes: &[u8], at: usize) -> u16
+    requires { ⌜ at + 2 ≤ length (now bytes) ⌝ }
+    ensures { λ r. ⌜ r ≡ number (take 2 (drop at (now (bytes .entry)))) ⌝ }
 {
-    b as u32
+    let low = bytes[at] as u16;
+    let high = bytes[at + 1] as u16;
+    low + 256 * high
 }
 
 // The u32 at byte `at`.
@@ -16,27 +20,9 @@ fn number_at(bytes: &[u8], at: usize) -> u32
     requires { ⌜ at + 4 ≤ length (now bytes) ⌝ }
     ensures { λ r. ⌜ r ≡ number (take 4 (drop at (now (bytes .entry)))) ⌝ }
 {
-    let a = wide(bytes[at]);
-    let b = wide(bytes[at + 1]);
-    let c = wide(bytes[at + 2]);
-    let d = wide(bytes[at + 3]);
-    a + 256 * b + 65536 * c + 16777216 * d
-}
-
-fn wide_u16(b: u8) -> u16
-    ensures { λ r. ⌜ r ≡ b ⌝ }
-{
-    b as u16
-}
-
-// The u16 at byte `at`.
-fn u16_at(bytes: &[u8], at: usize) -> u16
-    requires { ⌜ at + 2 ≤ length (now bytes) ⌝ }
-    ensures { λ r. ⌜ r ≡ number (take 2 (drop at (now (bytes .entry)))) ⌝ }
-{
-    let low = wide_u16(bytes[at]);
-    let high = wide_u16(bytes[at + 1]);
-    low + 256 * high
+    let low = u16_at(bytes, at) as u32;
+    let high = u16_at(bytes, at + 2) as u32;
+    low + 65536 * high
 }
 
 // The five u16 from byte `at` on.

@@ -2,14 +2,15 @@
 mod bytes;
 
 ghost use mathlib.Core.Path.{_≡_};
-ghost use mathlib.Core.List.{_++_};
-ghost use Prim.Native.Nat.{_+_, _*_, _/_, _≤_, min};
-ghost use lib.ListN.{length, take, drop};
+ghost use Prim.Native.Nat.{_*_, _/_, _≤_, min};
+ghost use lib.ListN.{length, take};
 ghost use Rattle.sheet.specs.Answer.{refusalSays};
+ghost use Rattle.sheet.specs.Read.{readSays};
+ghost use Rattle.sheet.specs.Write.{writeSays};
 ghost use Rattle.chase.specs.Judge.{judged as judgedAs, refuses as refusedAs};
-ghost use Rattle.judging.specs.Answer.{verdictOf};
+ghost use Rattle.judging.specs.Answer.{verdictOf, judgeSays};
 ghost use Rattle.steps.specs.Showing.{shownAt};
-ghost use Rattle.followup.specs.Bytes.{numbersOf, allBytes};
+ghost use Rattle.followup.specs.Bytes.{numbersOf};
 ghost use Rattle.followup.specs.Reply.{version, Replies, ReadsBytes, WritesBytes, FindsPattern, JudgeReplies, JudgesNumbers, JudgesBytes, JudgesText, ShowsStep, FindsLine};
 ghost use Rattle.followup.specs.inner.Numbers.{ReadsNumbers};
 use judging::Figures;
@@ -137,14 +138,21 @@ fn decode_lines(lines: &[u8], numbers: &mut [u32]) -> usize
     count
 }
 
+// What reading answers, as a reply.
+fn read_reply(answer: ReadAnswer) -> Reply
+    ensures { λ r. ⌜ Replies (readSays answer) r ⌝ }
+{
+    match answer {
+        ReadAnswer::Lines(count) => counts(count),
+        ReadAnswer::Refused(refusal) => refuses(refusal),
+    }
+}
+
 // Reads a text into numbers, eight for a line.
 fn read_numbers(text: &[u8], numbers: &mut [u32]) -> Reply
     ensures { λ r. ⌜ ReadsNumbers (now (text .entry)) (now (numbers .entry)) r (now (numbers .exit)) ⌝ }
 {
-    match sheet::read(text, numbers) {
-        ReadAnswer::Lines(count) => counts(count),
-        ReadAnswer::Refused(refusal) => refuses(refusal),
-    }
+    read_reply(sheet::read(text, numbers))
 }
 
 // Reads a text, with room for the numbers of as many lines as it can have.
@@ -158,31 +166,14 @@ fn read_lines(text: &[u8], numbers: &mut [u32], lines: &mut [u8]) -> Reply
     said
 }
 
-// Reads a text of up to 5,120 bytes, which has up to 256 lines.
-fn read_few(text: &[u8], lines: &mut [u8]) -> Reply
-    requires { ⌜ length (now text) ≤ 5120 ⌝ }
-    ensures { λ r. ⌜ ReadsBytes (now (text .entry)) (now (lines .entry)) r (now (lines .exit)) ⌝ }
+// What writing answers, as a reply.
+fn write_reply(answer: WriteAnswer) -> Reply
+    ensures { λ r. ⌜ Replies (writeSays answer) r ⌝ }
 {
-    let mut numbers = room_for_few_lines();
-    read_lines(text, &mut numbers, lines)
-}
-
-// Reads any text.
-fn read_many(text: &[u8], lines: &mut [u8]) -> Reply
-    ensures { λ r. ⌜ ReadsBytes (now (text .entry)) (now (lines .entry)) r (now (lines .exit)) ⌝ }
-{
-    let mut numbers = room_for_text();
-    read_lines(text, &mut numbers, lines)
-}
-
-// Reads a text into lent lines, 32 bytes each.
-fn read(text: &[u8], lines: &mut [u8]) -> Reply
-    ensures { λ r. ⌜ ReadsBytes (now (text .entry)) (now (lines .entry)) r (now (lines .exit)) ⌝ }
-{
-    if text.len() > 5120 {
-        return read_many(text, lines);
+    match answer {
+        WriteAnswer::Bytes(size) => counts(size),
+        WriteAnswer::Refused(refusal) => refuses(refusal),
     }
-    read_few(text, lines)
 }
 
 // Writes lines, with room for their numbers.
@@ -191,59 +182,12 @@ fn write_lines(lines: &[u8], numbers: &mut [u32], text: &mut [u8]) -> Reply
     ensures { λ r. ⌜ WritesBytes (now (lines .entry)) (now (text .entry)) r (now (text .exit)) ⌝ }
 {
     let count = decode_lines(lines, numbers);
-    match sheet::write(&numbers[..count], text) {
-        WriteAnswer::Bytes(size) => counts(size),
-        WriteAnswer::Refused(refusal) => refuses(refusal),
-    }
+    write_reply(sheet::write(&numbers[..count], text))
 }
 
-// Writes up to 256 lines.
-fn write_few(lines: &[u8], text: &mut [u8]) -> Reply
-    requires { ⌜ length (now lines) / 4 ≤ 2048 ⌝ }
-    ensures { λ r. ⌜ WritesBytes (now (lines .entry)) (now (text .entry)) r (now (text .exit)) ⌝ }
+fn judged(verdict: usize, f: Figures) -> JudgeReply
+    ensures { λ r. ⌜ JudgeReplies (judgedAs (verdictOf verdict f)) r ⌝ }
 {
-    let mut numbers = room_for_few_lines();
-    write_lines(lines, &mut numbers, text)
-}
-
-// Writes any number of lines.
-fn write_many(lines: &[u8], text: &mut [u8]) -> Reply
-    ensures { λ r. ⌜ WritesBytes (now (lines .entry)) (now (text .entry)) r (now (text .exit)) ⌝ }
-{
-    let mut numbers = room_for_lines();
-    write_lines(lines, &mut numbers, text)
-}
-
-// Writes lent lines, 32 bytes each, as text.
-fn write(lines: &[u8], text: &mut [u8]) -> Reply
-    ensures { λ r. ⌜ WritesBytes (now (lines .entry)) (now (text .entry)) r (now (text .exit)) ⌝ }
-{
-    if lines.len() / 4 > 2048 {
-        return write_many(lines, text);
-    }
-    write_few(lines, text)
-}
-
-// The number of a record's pattern; its fields are four bytes each.
-fn pattern(fields: &[u8]) -> Reply
-    ensures { λ r. ⌜ FindsPattern (now (fields .entry)) r ⌝ }
-{
-    let mut numbers = [0u32; 7];
-    let count = count_of(fields.len(), 7);
-    bytes::decode(fields, &mut numbers, count);
-    match sheet::pattern(&numbers[..count]) {
-        PatternAnswer::Number(number) => counts(number),
-        PatternAnswer::FieldCount => no_count(10, 0),
-    }
-}
-
-// Puts the steps into the lent bytes.
-fn judged(verdict: usize, f: Figures, written: &[u16], steps: &mut [u8]) -> JudgeReply
-    requires { ⌜ (f .trail + f .turns ≤ 4096) × (20480 ≤ length (now written)) × (40960 ≤ length (now steps)) ⌝ }
-    ensures { λ r. ⌜ JudgeReplies (judgedAs (verdictOf verdict f)) r
-        × (now (steps .exit) ≡ allBytes 2 (take (5 * (f .trail + f .turns)) (now (written .entry))) ++ drop (2 * (5 * (f .trail + f .turns))) (now (steps .entry))) ⌝ }
-{
-    bytes::encode_u16(written, steps, 5 * (f.trail + f.turns));
     JudgeReply {
         refusal: 0,
         line: 0,
@@ -275,20 +219,29 @@ fn no_judgement(refusal: u32, line: usize) -> JudgeReply
     }
 }
 
-// Judges lines that are held as numbers.
-fn judge_numbers(numbers: &[u32], steps: &mut [u8]) -> JudgeReply
-    requires { ⌜ 20480 ≤ length (now steps) / 2 ⌝ }
-    ensures { λ r. ⌜ JudgesNumbers (now (numbers .entry)) (now (steps .entry)) r (now (steps .exit)) ⌝ }
+// What judging answers, as a reply.
+fn judge_reply(answer: JudgeAnswer) -> JudgeReply
+    ensures { λ r. ⌜ JudgeReplies (judgeSays answer) r ⌝ }
 {
-    let mut written = room_for_steps();
-    match judging::judge(numbers, &mut written) {
-        JudgeAnswer::Settles(f) => judged(1, f, &written, steps),
-        JudgeAnswer::Endless(f) => judged(2, f, &written, steps),
+    match answer {
+        JudgeAnswer::Settles(f) => judged(1, f),
+        JudgeAnswer::Endless(f) => judged(2, f),
         JudgeAnswer::Refused(refusal) => {
             let said = judging::refusal_numbers(refusal);
             no_judgement(said.number as u32, said.line)
         }
     }
+}
+
+// Judges lines that are held as numbers, and puts the steps into the lent bytes; a refusal counts none.
+fn judge_numbers(numbers: &[u32], steps: &mut [u8]) -> JudgeReply
+    requires { ⌜ 20480 ≤ length (now steps) / 2 ⌝ }
+    ensures { λ r. ⌜ JudgesNumbers (now (numbers .entry)) (now (steps .entry)) r (now (steps .exit)) ⌝ }
+{
+    let mut written = room_for_steps();
+    let said = judge_reply(judging::judge(numbers, &mut written));
+    bytes::encode_u16(&written, steps, 5 * said.trail + 5 * said.loop_steps);
+    said
 }
 
 // Judges lines, with room for their numbers.
@@ -298,37 +251,6 @@ fn judge_lines(lines: &[u8], numbers: &mut [u32], steps: &mut [u8]) -> JudgeRepl
 {
     let count = decode_lines(lines, numbers);
     judge_numbers(&numbers[..count], steps)
-}
-
-// Judges up to 256 lines.
-fn judge_few(lines: &[u8], steps: &mut [u8]) -> JudgeReply
-    requires { ⌜ (length (now lines) / 4 ≤ 2048) × (20480 ≤ length (now steps) / 2) ⌝ }
-    ensures { λ r. ⌜ JudgesBytes (now (lines .entry)) (now (steps .entry)) r (now (steps .exit)) ⌝ }
-{
-    let mut numbers = room_for_few_lines();
-    judge_lines(lines, &mut numbers, steps)
-}
-
-// Judges any number of lines.
-fn judge_many(lines: &[u8], steps: &mut [u8]) -> JudgeReply
-    requires { ⌜ 20480 ≤ length (now steps) / 2 ⌝ }
-    ensures { λ r. ⌜ JudgesBytes (now (lines .entry)) (now (steps .entry)) r (now (steps .exit)) ⌝ }
-{
-    let mut numbers = room_for_lines();
-    judge_lines(lines, &mut numbers, steps)
-}
-
-// Judges lent lines, 32 bytes each. At least 4,096 steps, ten bytes each, are lent for the trail and the loop.
-fn judge(lines: &[u8], steps: &mut [u8]) -> JudgeReply
-    ensures { λ r. ⌜ JudgesBytes (now (lines .entry)) (now (steps .entry)) r (now (steps .exit)) ⌝ }
-{
-    if steps.len() / 2 < 20480 {
-        return no_judgement(12, 0);
-    }
-    if lines.len() / 4 > 2048 {
-        return judge_many(lines, steps);
-    }
-    judge_few(lines, steps)
 }
 
 // Judges a text, with room for the numbers of as many lines as it can have.
@@ -343,15 +265,6 @@ fn judge_read(text: &[u8], numbers: &mut [u32], steps: &mut [u8]) -> JudgeReply
     no_judgement(said.refusal, said.line)
 }
 
-// Judges a text of up to 5,120 bytes, which has up to 256 lines.
-fn judge_short_text(text: &[u8], steps: &mut [u8]) -> JudgeReply
-    requires { ⌜ (length (now text) ≤ 5120) × (20480 ≤ length (now steps) / 2) ⌝ }
-    ensures { λ r. ⌜ JudgesText (now (text .entry)) (now (steps .entry)) r (now (steps .exit)) ⌝ }
-{
-    let mut few = room_for_few_lines();
-    judge_read(text, &mut few, steps)
-}
-
 // Judges any text.
 fn judge_long_text(text: &[u8], steps: &mut [u8]) -> JudgeReply
     requires { ⌜ 20480 ≤ length (now steps) / 2 ⌝ }
@@ -359,19 +272,6 @@ fn judge_long_text(text: &[u8], steps: &mut [u8]) -> JudgeReply
 {
     let mut many = room_for_text();
     judge_read(text, &mut many, steps)
-}
-
-// Judges a text. At least 4,096 steps, ten bytes each, are lent for the trail and the loop.
-fn judge_text(text: &[u8], steps: &mut [u8]) -> JudgeReply
-    ensures { λ r. ⌜ JudgesText (now (text .entry)) (now (steps .entry)) r (now (steps .exit)) ⌝ }
-{
-    if steps.len() < 40960 {
-        return no_judgement(12, 0);
-    }
-    if text.len() > 5120 {
-        return judge_long_text(text, steps);
-    }
-    judge_short_text(text, steps)
 }
 
 // The numbers of step k, counted from 0; five zeros where the bytes hold none.
@@ -384,8 +284,89 @@ fn step_numbers(steps: &[u8], k: usize) -> [u16; 5]
     [0; 5]
 }
 
+// ---- what the archive exports; the names end in the interface's number
+
+#[no_mangle]
+pub extern "C" fn followup_version() -> u32
+    ensures { λ r. ⌜ r ≡ version ⌝ }
+{
+    1
+}
+
+// Reads a text into lent lines, 32 bytes each. A text of up to 5,120 bytes has up to 256 lines.
+#[no_mangle]
+pub extern "C" fn followup_read_v1(text: &[u8], lines: &mut [u8]) -> Reply
+    ensures { λ r. ⌜ ReadsBytes (now (text .entry)) (now (lines .entry)) r (now (lines .exit)) ⌝ }
+{
+    if text.len() > 5120 {
+        let mut many = room_for_text();
+        return read_lines(text, &mut many, lines);
+    }
+    let mut few = room_for_few_lines();
+    read_lines(text, &mut few, lines)
+}
+
+// Writes lent lines, 32 bytes each, as text.
+#[no_mangle]
+pub extern "C" fn followup_write_v1(lines: &[u8], text: &mut [u8]) -> Reply
+    ensures { λ r. ⌜ WritesBytes (now (lines .entry)) (now (text .entry)) r (now (text .exit)) ⌝ }
+{
+    if lines.len() / 4 > 2048 {
+        let mut many = room_for_lines();
+        return write_lines(lines, &mut many, text);
+    }
+    let mut few = room_for_few_lines();
+    write_lines(lines, &mut few, text)
+}
+
+// The number of a record's pattern; its fields are four bytes each.
+#[no_mangle]
+pub extern "C" fn followup_pattern_v1(fields: &[u8]) -> Reply
+    ensures { λ r. ⌜ FindsPattern (now (fields .entry)) r ⌝ }
+{
+    let mut numbers = [0u32; 7];
+    let count = count_of(fields.len(), 7);
+    bytes::decode(fields, &mut numbers, count);
+    match sheet::pattern(&numbers[..count]) {
+        PatternAnswer::Number(number) => counts(number),
+        PatternAnswer::FieldCount => no_count(10, 0),
+    }
+}
+
+// Judges lent lines, 32 bytes each. At least 4,096 steps, ten bytes each, are lent for the trail and the loop.
+#[no_mangle]
+pub extern "C" fn followup_judge_v1(lines: &[u8], steps: &mut [u8]) -> JudgeReply
+    ensures { λ r. ⌜ JudgesBytes (now (lines .entry)) (now (steps .entry)) r (now (steps .exit)) ⌝ }
+{
+    if steps.len() / 2 < 20480 {
+        return no_judgement(12, 0);
+    }
+    if lines.len() / 4 > 2048 {
+        let mut many = room_for_lines();
+        return judge_lines(lines, &mut many, steps);
+    }
+    let mut few = room_for_few_lines();
+    judge_lines(lines, &mut few, steps)
+}
+
+// Judges a text. At least 4,096 steps, ten bytes each, are lent for the trail and the loop. A text of up to 5,120 bytes has up to 256 lines.
+#[no_mangle]
+pub extern "C" fn followup_judge_text_v1(text: &[u8], steps: &mut [u8]) -> JudgeReply
+    ensures { λ r. ⌜ JudgesText (now (text .entry)) (now (steps .entry)) r (now (steps .exit)) ⌝ }
+{
+    if steps.len() < 40960 {
+        return no_judgement(12, 0);
+    }
+    if text.len() > 5120 {
+        return judge_long_text(text, steps);
+    }
+    let mut few = room_for_few_lines();
+    judge_read(text, &mut few, steps)
+}
+
 // Step k of lent steps, counted from 0; all zeros where they hold none.
-fn step_at(steps: &[u8], k: usize) -> StepReply
+#[no_mangle]
+pub extern "C" fn followup_step_at_v1(steps: &[u8], k: usize) -> StepReply
     ensures { λ r. ⌜ ShowsStep (now (steps .entry)) k r ⌝ }
 {
     let numbers = step_numbers(steps, k);
@@ -400,7 +381,8 @@ fn step_at(steps: &[u8], k: usize) -> StepReply
 }
 
 // Where line `number`, counted from 1, begins and ends. Where there is no such line, both are where the last whole line ends.
-fn line_span(text: &[u8], number: usize) -> SpanReply
+#[no_mangle]
+pub extern "C" fn followup_line_span_v1(text: &[u8], number: usize) -> SpanReply
     ensures { λ r. ⌜ FindsLine (now (text .entry)) number r ⌝ }
 {
     let found = walker::span(text, number);
@@ -408,62 +390,4 @@ fn line_span(text: &[u8], number: usize) -> SpanReply
         start: found.start,
         end: found.end,
     }
-}
-
-// ---- what the archive exports; the names end in the interface's number
-
-#[no_mangle]
-pub extern "C" fn followup_version() -> u32
-    ensures { λ r. ⌜ r ≡ version ⌝ }
-{
-    1
-}
-
-#[no_mangle]
-pub extern "C" fn followup_read_v1(text: &[u8], lines: &mut [u8]) -> Reply
-    ensures { λ r. ⌜ ReadsBytes (now (text .entry)) (now (lines .entry)) r (now (lines .exit)) ⌝ }
-{
-    read(text, lines)
-}
-
-#[no_mangle]
-pub extern "C" fn followup_write_v1(lines: &[u8], text: &mut [u8]) -> Reply
-    ensures { λ r. ⌜ WritesBytes (now (lines .entry)) (now (text .entry)) r (now (text .exit)) ⌝ }
-{
-    write(lines, text)
-}
-
-#[no_mangle]
-pub extern "C" fn followup_pattern_v1(fields: &[u8]) -> Reply
-    ensures { λ r. ⌜ FindsPattern (now (fields .entry)) r ⌝ }
-{
-    pattern(fields)
-}
-
-#[no_mangle]
-pub extern "C" fn followup_judge_v1(lines: &[u8], steps: &mut [u8]) -> JudgeReply
-    ensures { λ r. ⌜ JudgesBytes (now (lines .entry)) (now (steps .entry)) r (now (steps .exit)) ⌝ }
-{
-    judge(lines, steps)
-}
-
-#[no_mangle]
-pub extern "C" fn followup_judge_text_v1(text: &[u8], steps: &mut [u8]) -> JudgeReply
-    ensures { λ r. ⌜ JudgesText (now (text .entry)) (now (steps .entry)) r (now (steps .exit)) ⌝ }
-{
-    judge_text(text, steps)
-}
-
-#[no_mangle]
-pub extern "C" fn followup_step_at_v1(steps: &[u8], k: usize) -> StepReply
-    ensures { λ r. ⌜ ShowsStep (now (steps .entry)) k r ⌝ }
-{
-    step_at(steps, k)
-}
-
-#[no_mangle]
-pub extern "C" fn followup_line_span_v1(text: &[u8], number: usize) -> SpanReply
-    ensures { λ r. ⌜ FindsLine (now (text .entry)) number r ⌝ }
-{
-    line_span(text, number)
 }

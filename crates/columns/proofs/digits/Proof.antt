@@ -1,14 +1,17 @@
 -- `digits` meets its contract: each place is what `place` answers. Assumes nothing.
+use mathlib.Core.List.{[], _∷_}
+use Prim.Native.Nat.{_+_, _%_}
+use native.Mathlib.Omega.{arith}
 use borrow.Author.Needs.{needs}
 use Rattle.columns.specs.Column.{column}
 use Rattle.columns.proofs.digits.Statement.{statement}
 use Rattle.columns.proofs.digits.Tie as tie
 
 cast-last : tie.Need-cast-last
-cast-last c = search needs
+cast-last c = omega arith
 
 add-last : tie.Need-add-last
-add-last c = search needs
+add-last c = omega arith
 
 place-requires : tie.Need-place-requires
 place-requires c κs = search needs
@@ -36,7 +39,18 @@ place-requires-8 c κs = search needs
 
 returns : tie.Need-returns
 unfolding column
-returns c = cc
+returns c =
+    let n = c .before .before .before .before .before .before .before .before .args .n in
+    λ i.
+    c .before .before .before .before .before .before .before .place .ensures i
+    ∷ c .before .before .before .before .before .before .place2 .ensures i
+    ∷ c .before .before .before .before .before .place3 .ensures i
+    ∷ c .before .before .before .before .place4 .ensures i
+    ∷ c .before .before .before .place5 .ensures i
+    ∷ c .before .before .place6 .ensures i
+    ∷ c .before .place7 .ensures i
+    ∷ c .place8 .ensures i
+    ∷ (48 + n % 10) ∷ []
 
 pub digits-spec : {M : Type 1} → statement M
 digits-spec =

@@ -13,7 +13,7 @@ returns c =
     ap inForm (sym (too-few (start .args .s .now) (start .args .at) (omega (arith, c .if1 .taken))))
 
 sub-if2 : tie.Need-sub-if2
-sub-if2 c = search needs
+sub-if2 c = omega arith
 
 returns-2 : tie.Need-returns-2
 returns-2 c =

@@ -1,4 +1,5 @@
 -- `place` meets its contract. Assumes nothing.
+use native.Mathlib.Omega.{arith}
 use borrow.Author.Needs.{needs}
 use Rattle.columns.proofs.ColumnLaws.{placeByte-nonzero}
 use Rattle.columns.proofs.place.Statement.{statement}
@@ -8,10 +9,10 @@ returns : tie.Need-returns
 returns c = search needs
 
 cast-result : tie.Need-cast-result
-cast-result c = search needs
+cast-result c = omega arith
 
 add-result : tie.Need-add-result
-add-result c = search needs
+add-result c = omega arith
 
 returns-2 : tie.Need-returns-2
 returns-2 c = placeByte-nonzero _ (c .if1 .left)

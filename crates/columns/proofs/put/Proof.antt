@@ -16,7 +16,7 @@ returns : tie.Need-returns Inv-loop μ-loop
 returns c = columnPut-short _ _ _ (omega arith)
 
 sub-if2 : tie.Need-sub-if2 Inv-loop μ-loop
-sub-if2 c = search needs
+sub-if2 c = omega arith
 
 returns-2 : tie.Need-returns-2 Inv-loop μ-loop
 returns-2 c = columnPut-short _ _ _ (omega arith)
@@ -28,19 +28,19 @@ loop-holds : tie.Need-loop-holds Inv-loop μ-loop
 loop-holds c = putting-begun (search needs) (c .column .ensures)
 
 array-read-text : tie.Need-array-read-text Inv-loop μ-loop
-array-read-text c = search needs
+array-read-text c = omega arith
 
 add-text : tie.Need-add-text Inv-loop μ-loop
-add-text c = search needs
+add-text c = omega arith
 
 slice-write-text : tie.Need-slice-write-text Inv-loop μ-loop
-slice-write-text c = search needs
+slice-write-text c = omega arith
 
 add-i : tie.Need-add-i Inv-loop μ-loop
-add-i c = search needs
+add-i c = omega arith
 
 loop-less : tie.Need-loop-less Inv-loop μ-loop
-loop-less c = search needs
+loop-less c = omega arith
 
 loop-again : tie.Need-loop-again Inv-loop μ-loop
 loop-again c = putting-more (search needs) (c .before .loop .inv)

@@ -16,7 +16,7 @@ abbrev μ-loop : tie.MeasureT-loop
 μ-loop s at n₀ i₀ n i = 8 - i
 
 shared-slice-read-if1 : tie.Need-shared-slice-read-if1 Inv-loop μ-loop
-shared-slice-read-if1 c = search needs
+shared-slice-read-if1 c = omega arith
 
 returns : tie.Need-returns Inv-loop μ-loop
 returns c = let start = c .before .before .before in ap inForm (sym (begins-otherwise (start .args .s .now) (start .args .at) (start .pre) (c .if1 .taken)))
@@ -25,10 +25,10 @@ loop-holds : tie.Need-loop-holds Inv-loop μ-loop
 loop-holds c = begins-blank _ _ (c .before .before .before .pre) (c .if1 .left)
 
 add-b : tie.Need-add-b Inv-loop μ-loop
-add-b c = search needs
+add-b c = omega arith
 
 shared-slice-read-b : tie.Need-shared-slice-read-b Inv-loop μ-loop
-shared-slice-read-b c = search needs
+shared-slice-read-b c = omega arith
 
 returns-2 : tie.Need-returns-2 Inv-loop μ-loop
 returns-2 c = let turn = c .before .before .before in ap inForm (sym (blank-after-digit _ _ _ _ (turn .before .loop .inv) (turn .loop-test .taken) (c .before .if2 .taken) (c .if3 .taken)))
@@ -53,10 +53,10 @@ returns-5 c = let turn = c .before .before .before .before .before .before in ap
     (omega (arith, read-fits _ _ _ _ (turn .before .loop .inv), c .before .before .if5 .left, c .before .wide .ensures, c .if6 .taken))))
 
 add-i : tie.Need-add-i Inv-loop μ-loop
-add-i c = search needs
+add-i c = omega arith
 
 loop-less : tie.Need-loop-less Inv-loop μ-loop
-loop-less c = search needs
+loop-less c = omega arith
 
 loop-again : tie.Need-loop-again Inv-loop μ-loop
 loop-again c =
@@ -72,10 +72,10 @@ loop-again c =
     (c .if2 .came)
 
 add-last : tie.Need-add-last Inv-loop μ-loop
-add-last c = search needs
+add-last c = omega arith
 
 shared-slice-read-last : tie.Need-shared-slice-read-last Inv-loop μ-loop
-shared-slice-read-last c = search needs
+shared-slice-read-last c = omega arith
 
 returns-6 : tie.Need-returns-6 Inv-loop μ-loop
 returns-6 c = let start = c .before .before .before .before .before .before .before in ap inForm (sym (last-below-digits (start .args .s .now) (start .args .at) (c .if7 .taken)))

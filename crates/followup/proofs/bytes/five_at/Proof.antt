@@ -1,4 +1,5 @@
 -- `followup::bytes::five_at` meets its contract: two bytes further, four times. Assumes nothing.
+use native.Mathlib.Omega.{arith}
 use borrow.Author.Needs.{needs}
 use denote.Ref.{now}
 use Rattle.followup.proofs.StepAt.{five-numbers}
@@ -9,25 +10,25 @@ u16-at-requires : tie.Need-u16-at-requires
 u16-at-requires c κs = search needs
 
 add-u16-at : tie.Need-add-u16-at
-add-u16-at c = search needs
+add-u16-at c = omega arith
 
 u16-at-requires-2 : tie.Need-u16-at-requires-2
 u16-at-requires-2 c κs = search needs
 
 add-u16-at-2 : tie.Need-add-u16-at-2
-add-u16-at-2 c = search needs
+add-u16-at-2 c = omega arith
 
 u16-at-requires-3 : tie.Need-u16-at-requires-3
 u16-at-requires-3 c κs = search needs
 
 add-u16-at-3 : tie.Need-add-u16-at-3
-add-u16-at-3 c = search needs
+add-u16-at-3 c = omega arith
 
 u16-at-requires-4 : tie.Need-u16-at-requires-4
 u16-at-requires-4 c κs = search needs
 
 add-u16-at-4 : tie.Need-add-u16-at-4
-add-u16-at-4 c = search needs
+add-u16-at-4 c = omega arith
 
 u16-at-requires-5 : tie.Need-u16-at-requires-5
 u16-at-requires-5 c κs = search needs

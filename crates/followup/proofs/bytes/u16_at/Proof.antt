@@ -3,31 +3,32 @@ use Prim.Native.Nat.{_+_, _<_}
 use native.Mathlib.Omega.{arith}
 use borrow.Author.Needs.{needs}
 use denote.Ref.{now}
+use lib.ListN.{getD}
 use Rattle.followup.proofs.ByteLaws.{number-more}
 use Rattle.followup.proofs.bytes.u16_at.Statement.{statement}
 use Rattle.followup.proofs.bytes.u16_at.Tie as tie
 
+abbrev start : tie.After-shared-slice-known2 → tie.Start
+start c = c .before .before
+
 -- each byte is below 256
-small : (c : tie.After-wide-u162) → (c .wide-u162 .result < 256) × (c .before .before .wide-u16 .result < 256)
-small c =
-    let at = c .before .before .before .before .before .args .at in
-    let given = c .before .shared-slice-known3 .given in
-    (omega (arith, given (at + 1)), omega (arith, given at))
+small : (c : tie.After-shared-slice-known2) → (getD (now (start c .args .bytes)) (start c .args .at) 0 < 256) × (getD (now (start c .args .bytes)) (start c .args .at + 1) 0 < 256)
+small c = (omega (arith, c .shared-slice-known2 .given (start c .args .at)), omega (arith, c .shared-slice-known2 .given (start c .args .at + 1)))
 
-shared-slice-read-wide-u16 : tie.Need-shared-slice-read-wide-u16
-shared-slice-read-wide-u16 c = search needs
+shared-slice-read-low : tie.Need-shared-slice-read-low
+shared-slice-read-low c = search needs
 
-wide-u16-requires : tie.Need-wide-u16-requires
-wide-u16-requires c κs = search needs
+cast-low : tie.Need-cast-low
+cast-low c = omega (arith, c .shared-slice-known .given (c .before .args .at))
 
-add-wide-u16 : tie.Need-add-wide-u16
-add-wide-u16 c = search needs
+add-high : tie.Need-add-high
+add-high c = search needs
 
-shared-slice-read-wide-u16-2 : tie.Need-shared-slice-read-wide-u16-2
-shared-slice-read-wide-u16-2 c = search needs
+shared-slice-read-high : tie.Need-shared-slice-read-high
+shared-slice-read-high c = search needs
 
-wide-u16-requires-2 : tie.Need-wide-u16-requires-2
-wide-u16-requires-2 c κs = search needs
+cast-high : tie.Need-cast-high
+cast-high c = omega (arith, small c)
 
 mul-result : tie.Need-mul-result
 mul-result c = omega (arith, small c)
@@ -37,23 +38,19 @@ add-result c = omega (arith, small c)
 
 returns : tie.Need-returns
 returns c =
-    let bytes = now (c .before .before .before .before .before .args .bytes) in
-    let at = c .before .before .before .before .before .args .at in
-    omega (
-      arith,
-      number-more 1 bytes at (at + 1) (omega arith) (search needs),
-      number-more 0 bytes (at + 1) (at + 2) (omega arith) (search needs),
-    )
+    let bytes = now (start c .args .bytes) in
+    let at = start c .args .at in
+    omega (arith, number-more 1 bytes at (at + 1) (omega arith) (search needs), number-more 0 bytes (at + 1) (at + 2) (omega arith) (search needs))
 
 pub u16-at-spec : {M : Type 1} → statement M
 u16-at-spec =
     tie.close
     (tie.spec
-    shared-slice-read-wide-u16
-    wide-u16-requires
-    add-wide-u16
-    shared-slice-read-wide-u16-2
-    wide-u16-requires-2
+    shared-slice-read-low
+    cast-low
+    add-high
+    shared-slice-read-high
+    cast-high
     mul-result
     add-result
     returns)

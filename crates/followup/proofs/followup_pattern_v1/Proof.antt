@@ -1,4 +1,4 @@
--- `followup::pattern` meets its contract: a law of `PatternLaws` for both returns. Assumes nothing.
+-- `followup::followup_pattern_v1` meets its contract: a law of `PatternLaws` for both returns. Assumes nothing.
 use mathlib.Core.Path.{_≡_, sym, subst, ap, _∙_}
 use native.Mathlib.Omega.{arith}
 use borrow.Author.Needs.{needs}
@@ -8,8 +8,8 @@ use Rattle.patterns.specs.Pattern.{patternOf, patternSays}
 use Rattle.followup.specs.Bytes.{numbersOf}
 use Rattle.followup.specs.Reply.{Replies}
 use Rattle.followup.proofs.PatternLaws.{pattern-found}
-use Rattle.followup.proofs.pattern.Statement.{statement}
-use Rattle.followup.proofs.pattern.Tie as tie
+use Rattle.followup.proofs.followup_pattern_v1.Statement.{statement}
+use Rattle.followup.proofs.followup_pattern_v1.Tie as tie
 
 -- what `pattern` answers for the numbers that were decoded it answers for all
 found : (c : tie.After-pattern)
@@ -56,8 +56,8 @@ returns-2 c =
     subst (λ o. Replies o (c .no-count .result)) (ap patternSays (sym (c .before .enum-told .given .1)) ∙ found (c .before .before .before))
     (c .no-count .ensures)
 
-pub pattern-spec : {M : Type 1} → statement M
-pattern-spec =
+pub followup-pattern-v1-spec : {M : Type 1} → statement M
+followup-pattern-v1-spec =
     tie.close
     (tie.spec
     count-of-requires

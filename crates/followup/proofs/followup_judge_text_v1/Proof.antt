@@ -1,10 +1,10 @@
--- `followup::judge_text` meets its contract: with too few steps by a law of `StepBytes`. Assumes nothing.
+-- `followup::followup_judge_text_v1` meets its contract: with too few steps by a law of `StepBytes`. Assumes nothing.
 use native.Mathlib.Omega.{arith}
 use borrow.Author.Needs.{needs}
 use denote.Ref.{now}
 use Rattle.followup.proofs.StepBytes.{text-short}
-use Rattle.followup.proofs.judge_text.Statement.{statement}
-use Rattle.followup.proofs.judge_text.Tie as tie
+use Rattle.followup.proofs.followup_judge_text_v1.Statement.{statement}
+use Rattle.followup.proofs.followup_judge_text_v1.Tie as tie
 
 no-judgement-requires : tie.Need-no-judgement-requires
 no-judgement-requires c κs = search needs
@@ -24,8 +24,14 @@ same-length c = search needs
 returns-2 : tie.Need-returns-2
 returns-2 c = search needs
 
-judge-short-text-requires : tie.Need-judge-short-text-requires
-judge-short-text-requires c κs = search needs
+room-for-few-lines-requires : tie.Need-room-for-few-lines-requires
+room-for-few-lines-requires c κs = search needs
+
+slice-aggregate-judge-read : tie.Need-slice-aggregate-judge-read
+slice-aggregate-judge-read c = search needs
+
+judge-read-requires : tie.Need-judge-read-requires
+judge-read-requires c κs = search needs
 
 same-length-2 : tie.Need-same-length-2
 same-length-2 c = search needs
@@ -33,8 +39,8 @@ same-length-2 c = search needs
 returns-3 : tie.Need-returns-3
 returns-3 c = search needs
 
-pub judge-text-spec : {M : Type 1} → statement M
-judge-text-spec =
+pub followup-judge-text-v1-spec : {M : Type 1} → statement M
+followup-judge-text-v1-spec =
     tie.close
     (tie.spec
     no-judgement-requires
@@ -42,6 +48,8 @@ judge-text-spec =
     judge-long-text-requires
     same-length
     returns-2
-    judge-short-text-requires
+    room-for-few-lines-requires
+    slice-aggregate-judge-read
+    judge-read-requires
     same-length-2
     returns-3)
