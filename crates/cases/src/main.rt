@@ -14,6 +14,7 @@ ghost use lib.ListN.{length};
 use console::Input;
 use judging::Figures;
 use judging::JudgeAnswer;
+use libc::STDOUT_FILENO;
 use sheet::PatternAnswer;
 use sheet::ReadAnswer;
 
@@ -83,70 +84,54 @@ fn as_given(head: &[u8], said: Said) -> bool {
     true
 }
 
-// Puts a text after the first `end` bytes of the output, as far as there is room. Says where it ends.
-fn put(out: &mut [u8], end: usize, text: &[u8]) -> usize {
-    let mut at = end;
-    let mut i: usize = 0;
-    while i < text.len() {
-        if out.len() <= at {
-            return at;
-        }
-        out[at] = text[i];
-        at += 1;
-        i += 1;
-    }
-    at
+// Writes a part of a line. Where it cannot be written, nor can the last line, and `print_tried` says so.
+fn print(text: &[u8]) {
+    io::write_all(STDOUT_FILENO, text);
 }
 
-fn print(out: &mut [u8], end: &mut usize, text: &[u8]) {
-    *end = put(out, *end, text);
+fn print_number(before: &[u8], n: usize) {
+    print(before);
+    io::print_decimal(STDOUT_FILENO, n as u64);
 }
 
-fn print_number(out: &mut [u8], end: &mut usize, before: &[u8], n: usize) {
-    print(out, end, before);
-    let mut digits = [0u8; 20];
-    let count = io::decimal(n as u64, &mut digits);
-    print(out, end, &digits[..count]);
-}
-
-fn print_name(out: &mut [u8], end: &mut usize, head: &[u8]) {
+fn print_name(head: &[u8]) {
     if 60 <= head.len() {
-        print(out, end, &head[20..60]);
+        print(&head[20..60]);
     }
 }
 
-fn print_verdict(out: &mut [u8], end: &mut usize, verdict: usize) {
+fn print_verdict(verdict: usize) {
     if verdict == 1 {
-        print(out, end, b" settles");
+        print(b" settles");
         return;
     }
-    print(out, end, b" endless");
+    print(b" endless");
 }
 
 // Prints the numbers of a verdict that the chase finds too.
-fn print_figures(out: &mut [u8], end: &mut usize, n: [usize; 8]) {
-    print_verdict(out, end, n[0]);
-    print_number(out, end, b", deepest ", n[1]);
-    print_number(out, end, b", shapes ", n[2]);
-    print_number(out, end, b", fired ", n[3]);
-    print_number(out, end, b", share ", n[4]);
+fn print_figures(n: [usize; 8]) {
+    print_verdict(n[0]);
+    print_number(b", deepest ", n[1]);
+    print_number(b", shapes ", n[2]);
+    print_number(b", fired ", n[3]);
+    print_number(b", share ", n[4]);
 }
 
-fn print_said(out: &mut [u8], end: &mut usize, said: Said) {
+fn print_said(said: Said) {
     let n = said.numbers;
     if said.letter == b'N' {
-        print_number(out, end, b" refused with ", n[0]);
-        print_number(out, end, b", line ", n[1]);
+        print_number(b" refused with ", n[0]);
+        print_number(b", line ", n[1]);
         return;
     }
     if said.letter == b'P' {
-        print_number(out, end, b" number ", n[0]);
+        print_number(b" number ", n[0]);
         return;
     }
-    print_figures(out, end, n);
-    print_number(out, end, b", row ", n[5]);
-    print_number(out, end, b", trail ", n[6]);
-    print_number(out, end, b", loop ", n[7]);
+    print_figures(n);
+    print_number(b", row ", n[5]);
+    print_number(b", trail ", n[6]);
+    print_number(b", loop ", n[7]);
 }
 
 fn verdict(number: usize, f: Figures) -> Said {
@@ -185,10 +170,10 @@ fn judge(lines: &[u32], steps: &mut [u16]) -> Said {
 }
 
 // Prints what an answer differs from, if it does.
-fn tell(out: &mut [u8], end: &mut usize, right: bool, what: &[u8]) -> bool {
+fn tell(right: bool, what: &[u8]) -> bool {
     if !right {
-        print(out, end, b", DIFFERS from ");
-        print(out, end, what);
+        print(b", DIFFERS from ");
+        print(what);
     }
     right
 }
@@ -196,10 +181,10 @@ fn tell(out: &mut [u8], end: &mut usize, right: bool, what: &[u8]) -> bool {
 // What the chase finds. It is endless where it does not rest and has gone deep; its deepest generation is then 0, as the judge has it.
 fn found(rests: bool, deepest: u32, shapes: usize, fired: usize, share: usize) -> [usize; 8] {
     if rests {
-        return [1, table::wide(deepest), shapes, fired, share, 0, 0, 0];
+        return [1, deepest as usize, shapes, fired, share, 0, 0, 0];
     }
     if deepest < 5 {
-        return [0, table::wide(deepest), shapes, fired, share, 0, 0, 0];
+        return [0, deepest as usize, shapes, fired, share, 0, 0, 0];
     }
     [2, 0, shapes, fired, share, 0, 0, 0]
 }
@@ -209,11 +194,11 @@ fn same_figures(a: [usize; 8], b: [usize; 8]) -> bool {
     (a[0] == b[0]) & (a[1] == b[1]) & (a[2] == b[2]) & (a[3] == b[3]) & (a[4] == b[4])
 }
 
-fn tell_figures(out: &mut [u8], end: &mut usize, said: [usize; 8], chased: [usize; 8]) -> bool {
+fn tell_figures(said: [usize; 8], chased: [usize; 8]) -> bool {
     let right = same_figures(said, chased);
     if !right {
-        print(out, end, b", DIFFERS from the chase:");
-        print_figures(out, end, chased);
+        print(b", DIFFERS from the chase:");
+        print_figures(chased);
     }
     right
 }
@@ -241,14 +226,14 @@ fn steps_right(lines: &[u32], values: &mut [[u32; 8]], steps: &[u16], n: [usize;
 }
 
 // Compares an answer with the chase, which has room for more shapes than the judge takes: a verdict with all its numbers, refusal 11 with the count of shapes.
-fn compare(out: &mut [u8], end: &mut usize, lines: &[u32], steps: &[u16], said: Said) -> bool {
+fn compare(lines: &[u32], steps: &[u16], said: Said) -> bool {
     let mut records = [[0; 8]; 640];
     let mut values = [[0; 8]; 2048];
     let mut shapes = [[0; 8]; 640];
     let mut fired = [[0; 8]; 640];
     let rests = small_chase::chase(lines, &mut records, &mut values, &mut shapes, &mut fired);
     if said.letter == b'N' {
-        return tell(out, end, 512 < table::size(&shapes), b"the chase");
+        return tell(512 < table::size(&shapes), b"the chase");
     }
     let chased = found(
         rests,
@@ -258,10 +243,8 @@ fn compare(out: &mut [u8], end: &mut usize, lines: &[u32], steps: &[u16], said: 
         small_chase::share(lines, &fired),
     );
     let n = said.numbers;
-    let right = tell_figures(out, end, n, chased);
+    let right = tell_figures(n, chased);
     tell(
-        out,
-        end,
         steps_right(lines, &mut values, steps, n),
         b"what its steps must be",
     )
@@ -269,77 +252,69 @@ fn compare(out: &mut [u8], end: &mut usize, lines: &[u32], steps: &[u16], said: 
 }
 
 // Prints an answer, and whether it is the one that the head of its case gives.
-fn tell_answer(out: &mut [u8], end: &mut usize, head: &[u8], said: Said) -> bool {
-    print_said(out, end, said);
-    tell(out, end, as_given(head, said), b"what is given")
+fn tell_answer(head: &[u8], said: Said) -> bool {
+    print_said(said);
+    tell(as_given(head, said), b"what is given")
 }
 
 // Tries the judge on lent lines. A refusal other than 11 needs no chase.
-fn try_lines(
-    out: &mut [u8],
-    end: &mut usize,
-    head: &[u8],
-    lines: &[u32],
-    steps: &mut [u16],
-) -> bool {
+fn try_lines(head: &[u8], lines: &[u32], steps: &mut [u16]) -> bool {
     let said = judge(lines, steps);
-    let right = tell_answer(out, end, head, said);
+    let right = tell_answer(head, said);
     let n = said.numbers;
     if said.letter == b'N' {
         if n[0] != 11 {
             return right;
         }
     }
-    compare(out, end, lines, steps, said) & right
+    compare(lines, steps, said) & right
 }
 
 // Lends as many steps as the case says.
-fn lend_steps(out: &mut [u8], end: &mut usize, head: &[u8], lines: &[u32]) -> bool {
+fn lend_steps(head: &[u8], lines: &[u32]) -> bool {
     let mut steps = [0; 20480];
     let count = column_number(head, 10);
     if 4096 < count {
-        return tell(out, end, false, b"the form of a case");
+        return tell(false, b"the form of a case");
     }
     let lent = 5 * count;
-    try_lines(out, end, head, lines, &mut steps[0..lent])
+    try_lines(head, lines, &mut steps[0..lent])
 }
 
 // Tries a sheet's text.
-fn try_text(out: &mut [u8], end: &mut usize, head: &[u8], text: &[u8]) -> bool {
+fn try_text(head: &[u8], text: &[u8]) -> bool {
     let mut lines = [0; 13104];
     match sheet::read(text, &mut lines) {
-        ReadAnswer::Lines(count) => {
-            lend_steps(out, end, head, console::front_lines(&lines, count))
-        }
+        ReadAnswer::Lines(count) => { lend_steps(head, console::front_lines(&lines, count)) }
         ReadAnswer::Refused(why) => {
             let said = sheet::refusal_numbers(why);
-            tell_answer(out, end, head, refusal(said.number as usize, said.line))
+            tell_answer(head, refusal(said.number as usize, said.line))
         }
     }
 }
 
 // Tries the first bytes of a text as a case's sheet.
-fn try_part(out: &mut [u8], end: &mut usize, head: &[u8], text: &[u8], size: usize) -> bool {
+fn try_part(head: &[u8], text: &[u8], size: usize) -> bool {
     if byte(head, 0) != b'C' {
-        return tell(out, end, false, b"the form of a case");
+        return tell(false, b"the form of a case");
     }
     if size <= text.len() {
         let walked = lines::walks_right(&text[0..size]);
-        let walks = tell(out, end, walked, b"the lines of its text");
-        return try_text(out, end, head, &text[0..size]) & walks;
+        let walks = tell(walked, b"the lines of its text");
+        return try_text(head, &text[0..size]) & walks;
     }
-    tell(out, end, false, b"the form of a case")
+    tell(false, b"the form of a case")
 }
 
 // Tries the first case of the cases that are left.
-fn try_case(out: &mut [u8], end: &mut usize, cases: &[u8]) -> bool {
+fn try_case(cases: &[u8]) -> bool {
     if cases.len() < 135 {
-        return tell(out, end, false, b"the form of a case");
+        return tell(false, b"the form of a case");
     }
     let head = &cases[0..135];
     let text = &cases[135..];
-    print_name(out, end, head);
-    try_part(out, end, head, text, column_number(head, 1))
+    print_name(head);
+    try_part(head, text, column_number(head, 1))
 }
 
 // How many bytes the case at `at` has, at most all that are left.
@@ -356,16 +331,16 @@ fn case_size(cases: &[u8], at: usize) -> usize
 }
 
 // Ends the line of a case and counts it.
-fn count_case(out: &mut [u8], end: &mut usize, tried: Tried, right: bool) -> Tried {
+fn count_case(tried: Tried, right: bool) -> Tried {
     let cases = table::one_more(tried.cases);
     if right {
-        print(out, end, b", as it must be\n");
+        print(b", as it must be\n");
         return Tried {
             cases,
             differ: tried.differ,
         };
     }
-    print(out, end, b"\n");
+    print(b"\n");
     Tried {
         cases,
         differ: table::one_more(tried.differ),
@@ -373,15 +348,15 @@ fn count_case(out: &mut [u8], end: &mut usize, tried: Tried, right: bool) -> Tri
 }
 
 // Tries all cases.
-fn try_cases(out: &mut [u8], end: &mut usize, cases: &[u8]) -> Tried {
+fn try_cases(cases: &[u8]) -> Tried {
     let mut tried = Tried {
         cases: 0,
         differ: 0,
     };
     let mut at: usize = 0;
     while at < cases.len() {
-        let right = try_case(out, end, &cases[at..]);
-        tried = count_case(out, end, tried, right);
+        let right = try_case(&cases[at..]);
+        tried = count_case(tried, right);
         at += case_size(cases, at);
     }
     tried
@@ -398,66 +373,41 @@ fn pattern(numbers: &[u32]) -> Said {
     }
 }
 
-fn try_pattern(
-    out: &mut [u8],
-    end: &mut usize,
-    name: &[u8],
-    numbers: &[u32],
-    letter: u8,
-    number: usize,
-) -> bool {
+fn try_pattern(name: &[u8], numbers: &[u32], letter: u8, number: usize) -> bool {
     let said = pattern(numbers);
     let n = said.numbers;
-    print(out, end, name);
-    print_said(out, end, said);
-    tell(
-        out,
-        end,
-        (said.letter == letter) & (n[0] == number),
-        b"what is given",
-    )
+    print(name);
+    print_said(said);
+    tell((said.letter == letter) & (n[0] == number), b"what is given")
 }
 
-fn try_patterns(out: &mut [u8], end: &mut usize, sheets: Tried) -> Tried {
+fn try_patterns(sheets: Tried) -> Tried {
     let same = try_pattern(
-        out,
-        end,
         b"pattern of (0, 0)                       ",
         &[0, 0],
         b'P',
         2,
     );
-    let more = count_case(out, end, sheets, same);
-    let none = try_pattern(
-        out,
-        end,
-        b"pattern of no number                    ",
-        &[],
-        b'N',
-        10,
-    );
-    count_case(out, end, more, none)
+    let more = count_case(sheets, same);
+    let none = try_pattern(b"pattern of no number                    ", &[], b'N', 10);
+    count_case(more, none)
 }
 
-// Prints how many cases were tried, and how many of them differ.
-fn print_tried(out: &mut [u8], end: &mut usize, all: Tried) {
-    print_number(out, end, b"", all.cases);
+// Prints how many cases were tried, and how many of them differ. Where that cannot be written, the reason is written to standard error.
+fn print_tried(all: Tried) {
+    print_number(b"", all.cases);
     if all.differ == 0 {
-        print(out, end, b" cases, all match\n");
+        console::print(b" cases, all match\n");
     } else {
-        print_number(out, end, b" cases, ", all.differ);
-        print(out, end, b" DIFFER\n");
+        print_number(b" cases, ", all.differ);
+        console::print(b" DIFFER\n");
     }
 }
 
-// Tries all cases and prints what is found; what does not fit into the output is left out.
-fn print_cases(cases: &[u8]) {
-    let mut out = [0; 65536];
-    let mut end: usize = 0;
-    let sheets = try_cases(&mut out, &mut end, cases);
-    let all = try_patterns(&mut out, &mut end, sheets);
-    print_tried(&mut out, &mut end, all);
-    console::print(console::front(&out, end));
+// Tries all sheets and the patterns, and prints what is found.
+fn try_all(sheets: &[u8]) {
+    let tried = try_cases(sheets);
+    print_tried(try_patterns(tried));
 }
 
 fn main() {
@@ -465,7 +415,7 @@ fn main() {
     let usage =
         b"usage: cases [FILE]\nTries the cases in FILE, or in standard input where FILE is - or none is named.\n";
     match console::read_input(usage, &mut cases) {
-        Input::Text(size) => print_cases(console::front(&cases, size)),
+        Input::Text(size) => try_all(console::front(&cases, size)),
         Input::Nothing => {}
     }
 }

@@ -12,7 +12,6 @@ use crate::table::narrow;
 use crate::table::number;
 use crate::table::one_more;
 use crate::table::size;
-use crate::table::wide;
 
 // The letters of lines.
 pub(crate) const B: u32 = 66;
@@ -116,7 +115,7 @@ fn all_carried(lines: &[u32], n: usize, record: [u32; 8]) -> [u32; 8] {
 }
 
 pub(crate) fn generation(values: &[[u32; 8]], value: u32) -> u32 {
-    number(entry(values, wide(value)), 1)
+    number(entry(values, value as usize), 1)
 }
 
 // The largest generation among carried values; 0 where there are none.
@@ -140,7 +139,7 @@ pub(crate) fn origin(n: usize, mark: u32) -> u32 {
 
 // The fresh number of a mark.
 fn fresh(values: &mut [[u32; 8]], n: usize, mark: u32, carried: [u32; 8]) -> u32 {
-    let before = wide(largest(values, carried));
+    let before = largest(values, carried) as usize;
     let key = [
         origin(n, mark),
         narrow(one_more(before)),

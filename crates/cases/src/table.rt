@@ -1,9 +1,5 @@
 // Tables of entries, eight numbers each, in which no entry stands twice. Entry 0 holds how many entries follow it.
 
-pub(crate) fn wide(x: u32) -> usize {
-    x as usize
-}
-
 pub(crate) fn narrow(x: usize) -> u32 {
     (x % 4294967296) as u32
 }
@@ -24,7 +20,7 @@ pub(crate) fn entry(table: &[[u32; 8]], k: usize) -> [u32; 8] {
 }
 
 pub(crate) fn size(table: &[[u32; 8]]) -> usize {
-    wide(number(entry(table, 0), 0))
+    number(entry(table, 0), 0) as usize
 }
 
 // Whether the table takes `n` entries more.

@@ -17,7 +17,6 @@ use crate::table::entry;
 use crate::table::number;
 use crate::table::same;
 use crate::table::size;
-use crate::table::wide;
 
 pub(crate) struct Step {
     pub rule: usize,
@@ -34,19 +33,15 @@ pub(crate) struct Going {
     pub right: bool,
 }
 
-fn wide16(x: u16) -> usize {
-    x as usize
-}
-
 // Step `k`, counted from 0, as the layer of step records shows it; all zeros past the end.
 fn step_at(steps: &[u16], k: usize) -> Step {
     let shown = steps::shown_at(steps, k);
     Step {
-        rule: wide16(shown.rule),
-        head: wide16(shown.head),
-        from: wide16(shown.from),
-        to: wide16(shown.to),
-        fresh: wide16(shown.fresh),
+        rule: shown.rule as usize,
+        head: shown.head as usize,
+        from: shown.from as usize,
+        to: shown.to as usize,
+        fresh: shown.fresh as usize,
     }
 }
 
@@ -157,7 +152,7 @@ fn follows(
         return false;
     }
     if step.fresh == 1 {
-        return makes_fresh(entry(values, wide(value)), origin(n, mark), record, from);
+        return makes_fresh(entry(values, value as usize), origin(n, mark), record, from);
     }
     if step.fresh != 0 {
         return false;
@@ -292,7 +287,7 @@ pub(crate) fn settled_right(
     if !going.right {
         return false;
     }
-    wide(followed(values, going)) == deepest
+    followed(values, going) as usize == deepest
 }
 
 // Goes round the loop once. It must come back to the shape and the field where it began, at a higher generation.

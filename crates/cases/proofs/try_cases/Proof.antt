@@ -1,5 +1,4 @@
 -- `try_cases` is safe and ends. The measure is what is left of the cases. Assumes nothing.
-use mathlib.Core.Path.{_≡_}
 use Prim.Native.Nat.{_-_, _≤_}
 use borrow.Author.Needs.{needs}
 use lib.ListN.{length}
@@ -7,10 +6,10 @@ use Rattle.cases.proofs.try_cases.Statement.{statement}
 use Rattle.cases.proofs.try_cases.Tie as tie
 
 abbrev Inv-loop : tie.InvT-loop
-Inv-loop out₀ end₀ cases tried₀ at₀ out end tried at = (at ≤ length cases) × (length out ≡ length out₀)
+Inv-loop cases tried₀ at₀ tried at = at ≤ length cases
 
 abbrev μ-loop : tie.MeasureT-loop
-μ-loop out₀ end₀ cases tried₀ at₀ out end tried at = length cases - at
+μ-loop cases tried₀ at₀ tried at = length cases - at
 
 loop-holds : tie.Need-loop-holds Inv-loop μ-loop
 loop-holds c = search needs
@@ -42,9 +41,6 @@ loop-less c = search needs
 loop-again : tie.Need-loop-again Inv-loop μ-loop
 loop-again c = search needs
 
-same-length : tie.Need-same-length Inv-loop μ-loop
-same-length c = search needs
-
 returns : tie.Need-returns Inv-loop μ-loop
 returns c = search needs
 
@@ -64,5 +60,4 @@ try-cases-spec =
     add-at
     loop-less
     loop-again
-    same-length
     returns)
