@@ -385,9 +385,16 @@ pub extern "C" fn followup_step_at_v1(steps: &[u8], k: usize) -> StepReply
 pub extern "C" fn followup_line_span_v1(text: &[u8], number: usize) -> SpanReply
     ensures { λ r. ⌜ FindsLine (now (text .entry)) number r ⌝ }
 {
-    let found = walker::span(text, number);
-    SpanReply {
-        start: found.start,
-        end: found.end,
+    let mut start: usize = 0;
+    let mut end: usize = 0;
+    let mut n: usize = 0;
+    while n < number {
+        start = end;
+        end = walker::moved_from(text, start);
+        if end == start {
+            return SpanReply { start, end };
+        }
+        n += 1;
     }
+    SpanReply { start, end }
 }

@@ -4,19 +4,13 @@ ghost use mathlib.Core.Path.{_≡_};
 ghost use mathlib.Core.Bool.{true};
 ghost use Prim.Native.Nat.{_+_, _≤_};
 ghost use lib.ListN.{length};
-ghost use Rattle.walker.specs.Walk.{lineEnd, spanStart, lineStart, HandsOut};
+ghost use Rattle.walker.specs.Walk.{lineEnd, HandsOut};
 ghost use Rattle.walker.specs.inner.Clear.{Clear};
 
 // The text, and where the next line begins.
 pub struct Walker<'a> {
     pub text: &'a [u8],
     pub at: usize,
-}
-
-// Where a line begins, and where it ends, after its byte 10.
-pub struct LineSpan {
-    pub start: usize,
-    pub end: usize,
 }
 
 // Whether none of the eight bytes at `i` is byte 10. The loop always makes all its turns, so it compiles to one wide comparison.
@@ -120,22 +114,4 @@ pub fn moved_from(text: &[u8], at: usize) -> usize
     w.at = at;
     next(&mut w);
     w.at
-}
-
-// Where line `number`, counted from 1, begins and ends. Where there is no such line, both are where the walker stays.
-pub fn span(text: &[u8], number: usize) -> LineSpan
-    ensures { λ r. ⌜ (r .start ≡ spanStart (now (text .entry)) number) × (r .end ≡ lineStart (now (text .entry)) number) ⌝ }
-{
-    let mut start: usize = 0;
-    let mut end: usize = 0;
-    let mut n: usize = 0;
-    while n < number {
-        start = end;
-        end = moved_from(text, start);
-        if end == start {
-            return LineSpan { start, end };
-        }
-        n += 1;
-    }
-    LineSpan { start, end }
 }

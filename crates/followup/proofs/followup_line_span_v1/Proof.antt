@@ -1,13 +1,13 @@
--- `span` meets its contract. The loop's invariant: `end` is where the walker stands after n lines, and `start` where the last of them began. The measure is what is left of `number`. Assumes nothing.
+-- `followup_line_span_v1` meets its contract. The loop's invariant: `end` is where the walker stands after n lines, and `start` where the last of them began. The measure is what is left of `number`. Assumes nothing.
 use mathlib.Core.Path.{_≡_, refl}
 use Prim.Native.Nat.{_-_, _≤_}
 use native.Mathlib.Omega.{arith}
 use native.Mathlib.Numerals.{add-one}
 use borrow.Author.Needs.{needs}
 use Rattle.walker.specs.Walk.{lineStart, spanStart}
 use Rattle.walker.proofs.TextLines.{span-stays}
-use Rattle.walker.proofs.span.Statement.{statement}
-use Rattle.walker.proofs.span.Tie as tie
+use Rattle.followup.proofs.followup_line_span_v1.Statement.{statement}
+use Rattle.followup.proofs.followup_line_span_v1.Tie as tie
 
 abbrev Inv-loop : tie.InvT-loop
 Inv-loop text number start₀ end₀ n₀ start end n = (n ≤ number) × (start ≡ spanStart text n) × (end ≡ lineStart text n)
@@ -41,8 +41,8 @@ returns-2 c =
     let all : loop .n ≡ c .before .before .before .args .number = omega arith in
     (rw all at (loop .inv .1), rw all at (loop .inv .2))
 
-pub span-spec : {M : Type 1} → statement M
-span-spec =
+pub followup-line-span-v1-spec : {M : Type 1} → statement M
+followup-line-span-v1-spec =
     tie.close
     (tie.spec
     Inv-loop
