@@ -84,7 +84,7 @@ fn as_given(head: &[u8], said: Said) -> bool {
     true
 }
 
-// Writes a part of a line. Where it cannot be written, nor can the last line, and `print_tried` says so.
+// Writes a part of a line. What cannot be written is lost; where the last line cannot be written either, `print_tried` says why.
 fn print(text: &[u8]) {
     io::write_all(STDOUT_FILENO, text);
 }
