@@ -7,6 +7,7 @@ use native.Mathlib.Nat.{add-assoc}
 use native.Mathlib.Numerals.{add-one}
 use native.Mathlib.Omega.{arith}
 use lib.Dec.{ltb}
+use borrow.Author.Tests.{le-ltb}
 use lib.ListN.{length, getD, take, drop, set, length-append, length-drop}
 use lib.Seq.{take-length, length-take-le, drop-drop}
 use Rattle.columns.specs.Column.{put}
@@ -50,12 +51,21 @@ module _ (letter : ℕ) (ns before : List ℕ) (at : ℕ) where
   unfolding putOf
   put-short r s = answered (refused 9 0) TextShort before (rw r (rw (length-lineText letter ns) (rw s refl))) refl refl
 
+  fits : inRange ns ≡ true → ltb (length before - at) (9 * length ns + 2) ≡ false → putOf letter ns (length before - at) ≡ good (lineText letter ns)
+  unfolding putOf
+  fits r s = rw r (rw (length-lineText letter ns) (rw s refl))
+
   pub put-good : (after : List ℕ) → inRange ns ≡ true → ltb (length before - at) (9 * length ns + 2) ≡ false → after ≡ put before at (lineText letter ns)
       → PutMeets letter ns before at (Bytes (9 * length ns + 2)) after
-  unfolding putOf
   put-good after r s q =
-      answered (good (lineText letter ns)) (Bytes (9 * length ns + 2)) after (rw r (rw (length-lineText letter ns) (rw s refl)))
-      (ap good (sym (length-lineText letter ns))) q
+      answered (good (lineText letter ns)) (Bytes (9 * length ns + 2)) after (fits r s) (ap good (sym (length-lineText letter ns))) q
+
+  -- Numbers that have columns are put where there is room.
+  pub put-fits : (answer : PutAnswer) (after : List ℕ) → PutMeets letter ns before at answer after → inRange ns ≡ true → at + 9 * length ns + 2 ≤ length before
+      → after ≡ put before at (lineText letter ns)
+  put-fits answer after m r room =
+      let s = le-ltb (length before - at) (9 * length ns + 2) (omega arith) in
+      m .text ∙ ap (λ (o : Outcome (List ℕ)). heldAt at o before) (fits r s)
 
 -- ---- the lines of steps
 

@@ -165,7 +165,7 @@ fn fill_refusal(number: usize, line: usize, text: &mut [u8]) -> usize
     ensures { λ r. ⌜ Filled (λ p. p ≡ refusalText number line) (now (text .entry)) r (now (text .exit)) ⌝ }
 {
     let numbers = [number, line];
-    fill_line(b'N', &numbers, text, 0);
+    put_line(b'N', &numbers, text, 0);
     20
 }
 

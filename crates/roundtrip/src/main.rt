@@ -2,22 +2,17 @@
 //
 // It lends 1,540 lines, fewer than the longest text can have, so that refusal 7 can be seen.
 use console::Input;
-use report::PutAnswer;
 use sheet::ReadAnswer;
 use sheet::Refusal;
 use sheet::WriteAnswer;
 
-// Prints N, then the number and the line in columns.
+// Prints N, then the number and the line in columns. A text has far fewer lines than a column can count.
 fn print_refusal(refusal: Refusal) {
     let said = sheet::refusal_numbers(refusal);
-    let mut line = [0u8; 20];
-    match report::put_line(b'N', &[said.number as usize, said.line], &mut line, 0) {
-        PutAnswer::Bytes(_) => {
-            console::print(&line);
-        }
-        PutAnswer::NumberTooLarge => {}
-        PutAnswer::TextShort => {}
-    }
+    let mut line = *b"N                  \n";
+    columns::put(&mut line, 1, said.number);
+    columns::put(&mut line, 10, (said.line % 100000000) as u32);
+    console::print(&line);
 }
 
 // Writes the lines as text and prints it.
