@@ -1,11 +1,12 @@
-/* Follow-up sheets: reading, writing and judging them, from C99 or C++. Link with libfollowup.a, which is built for x86-64 Linux (ELF,
+/* Follow-up sheets: reading, writing, judging and carrying them out, from C99 or C++. Link with libfollowup.a, which is built for x86-64 Linux (ELF,
  * System V ABI, 64-bit pointers) and uses the C library's memcpy and memset and nothing else.
  *
  * A sheet is a text; followup_judge_text says of it whether the follow-ups come to rest. In two steps: followup_read turns the text
- * into lines, eight numbers each, and followup_judge judges those lines. The caller lends all memory.
+ * into lines, eight numbers each, and followup_judge judges those lines. followup_carry carries the rules out on such lines and gives
+ * the records themselves. The caller lends all memory.
  *
- * Numbers. Lent lines and fields are u32, lent steps are u16, each as its bytes, lowest first. A last part too short for
- * a number (up to 3 bytes of lines or fields, 1 byte of steps) counts as none and is never changed.
+ * Numbers. Lent lines, fields and records are u32, lent steps are u16, each as its bytes, lowest first. A last part too short for
+ * a number (up to 3 bytes of lines, fields or records, 1 byte of steps) counts as none and is never changed.
  *
  * Pointers. A pointer may be NULL where its length is 0. Otherwise the whole length must be readable (const) or readable and
  * writable (lent). Alignment 1 suffices. No length may pass PTRDIFF_MAX. Lent memory must not overlap the input, and during
@@ -40,10 +41,10 @@ extern "C" {
 #define FOLLOWUP_VERSION 1
 
 /* Stack that suffices for a thread that makes any of the calls. test.c makes them on a stack of that size, filled with one byte
- * value, and looks how much of it has changed at the end: 244,634 bytes with judging, 221,242 with judging a text, 109,904 with
- * reading, 80,800 with writing, 4,464 with none (gcc -O2, glibc). Some C libraries give a thread less where nothing is asked
+ * value, and looks how much of it has changed at the end: 263,464 bytes with carrying out, 245,338 with judging,
+ * 221,978 with judging a text, 109,944 with reading, 80,824 with writing, 4,464 with none (gcc -O2, glibc), so that no call needs 256 KiB itself. Some C libraries give a thread less where nothing is asked
  * for (musl: 128 KiB); there set the size of its stack (pthread_attr_setstacksize). */
-#define FOLLOWUP_STACK ((size_t)256 * 1024)
+#define FOLLOWUP_STACK ((size_t)264 * 1024)
 
 /* Limits of a text and of a sheet. */
 #define FOLLOWUP_TEXT_MAX 32768      /* bytes of a text */
@@ -64,25 +65,31 @@ extern "C" {
 #define FOLLOWUP_TEXT_LINES 1638  /* reading gives at most so many lines */
 #define FOLLOWUP_SHEET_LINES 2368 /* a sheet has at most so many: 64 kinds, 256 rules of 5 lines, 1,024 rows */
 #define FOLLOWUP_STEPS 4096       /* steps to lend, at least */
+#define FOLLOWUP_RECORDS 4096     /* records to lend, at least; a record is a line */
 #define FOLLOWUP_TEXT_LINES_BYTES ((size_t)FOLLOWUP_TEXT_LINES * FOLLOWUP_LINE_BYTES)   /* 52,416: enough for reading */
 #define FOLLOWUP_SHEET_LINES_BYTES ((size_t)FOLLOWUP_SHEET_LINES * FOLLOWUP_LINE_BYTES) /* 75,776 */
 #define FOLLOWUP_STEPS_BYTES ((size_t)FOLLOWUP_STEPS * FOLLOWUP_STEP_BYTES)             /* 40,960: enough for judging */
+#define FOLLOWUP_RECORDS_BYTES ((size_t)FOLLOWUP_RECORDS * FOLLOWUP_LINE_BYTES)         /* 131,072: enough for carrying out */
 
 /* Refusals. Lines count from 1; the line is 0 where none is named. What is said of read holds of judge_text too, but for 7. */
 enum {
-    FOLLOWUP_GOOD = 0,         /* no refusal */
-    FOLLOWUP_TEXT_LONG = 1,    /* read, write: the text is, or would be, over 32,768 bytes; line 0 */
-    FOLLOWUP_FORM_WRONG = 2,   /* read: a line is not in the form, or has no final byte 10 */
-    FOLLOWUP_OUT_OF_PLACE = 3, /* read: a line is out of place; a rule without H at the end, with the line after the last */
-    FOLLOWUP_KIND_WRONG = 4,   /* read: kind or width outside its range or order, kind not declared, or a line not as wide as its kind */
-    FOLLOWUP_MARK_WRONG = 5,   /* read: a mark is not 1 to 12, or skips one */
-    FOLLOWUP_TOO_MANY = 6,     /* read: a rule, an H line or a row too many */
-    FOLLOWUP_LINES_SHORT = 7,  /* read: more lines than were lent, with the first that does not fit */
-    FOLLOWUP_LINE_WRONG = 8,   /* write, judge: the lent lines are no sheet, with the first wrong line */
-    FOLLOWUP_TEXT_SHORT = 9,   /* write: the lent text is too short; line 0 */
-    FOLLOWUP_FIELD_COUNT = 10, /* pattern: no field, or more than six; line 0 */
-    FOLLOWUP_SHAPES_OVER = 11, /* judge, judge_text: the reachable records show more than 512 shapes; line 0 */
-    FOLLOWUP_STEPS_SHORT = 12  /* judge, judge_text: fewer than 4,096 steps are lent; line 0 */
+    FOLLOWUP_GOOD = 0,           /* no refusal */
+    FOLLOWUP_TEXT_LONG = 1,      /* read, write: the text is, or would be, over 32,768 bytes; line 0 */
+    FOLLOWUP_FORM_WRONG = 2,     /* read: a line is not in the form, or has no final byte 10 */
+    FOLLOWUP_OUT_OF_PLACE = 3,   /* read: a line is out of place; a rule without H at the end, with the line after the last */
+    FOLLOWUP_KIND_WRONG = 4,     /* read: kind or width outside its range or order, kind not declared, or a line not as wide as its kind */
+    FOLLOWUP_MARK_WRONG = 5,     /* read: a mark is not 1 to 12, or skips one */
+    FOLLOWUP_TOO_MANY = 6,       /* read: a rule, an H line or a row too many */
+    FOLLOWUP_LINES_SHORT = 7,    /* read: more lines than were lent, with the first that does not fit */
+    FOLLOWUP_LINE_WRONG = 8,     /* write, judge, carry: the lent lines are no sheet, with the first wrong line */
+    FOLLOWUP_TEXT_SHORT = 9,     /* write: the lent text is too short; line 0 */
+    FOLLOWUP_FIELD_COUNT = 10,   /* pattern: no field, or more than six; line 0 */
+    FOLLOWUP_SHAPES_OVER = 11,   /* judge, judge_text, carry: the reachable records show more than 512 shapes; line 0 */
+    FOLLOWUP_STEPS_SHORT = 12,   /* judge, judge_text: fewer than 4,096 steps are lent; line 0 */
+    FOLLOWUP_RECORDS_SHORT = 12, /* carry: room for fewer than 4,096 records is lent; line 0 */
+    FOLLOWUP_SHEET_ENDLESS = 21, /* carry: the sheet is endless; line 0 */
+    FOLLOWUP_RECORDS_OVER = 22,  /* carry: more than 4,096 records are reachable; line 0 */
+    FOLLOWUP_NUMBER_OVER = 23    /* carry: a fresh number over 99,999,999 would be needed; line 0 */
 };
 
 /* Verdicts. */
@@ -110,6 +117,14 @@ struct followup_judge_reply {
     size_t row;       /* the row that the trail starts from, counted from 1 among R lines; 0 where it settles with deepest 0 */
     size_t trail;     /* how many steps the trail has; they come first */
     size_t loop;      /* how many steps the loop has; they follow the trail's; 0 where the sheet settles */
+};
+
+/* What carrying out answers. All figures but refusal and line are 0 on a refusal. */
+struct followup_carry_reply {
+    uint32_t refusal; /* 0: good; otherwise the refusal's number */
+    size_t line;      /* the line that a refusal names; 0 where none, and in a good answer */
+    size_t records;   /* how many records there are, the rows among them, at most 4,096 */
+    size_t firings;   /* how often a rule fired: the different pairs of a rule and the values of its carried marks */
 };
 
 /* A step fires its rule on the record that the step before it made, the first on the starting row, and goes on with the record
@@ -145,6 +160,7 @@ struct followup_reply FOLLOWUP_EXPORTED(followup_write)(const uint8_t *lines, si
 struct followup_reply FOLLOWUP_EXPORTED(followup_pattern)(const uint8_t *fields, size_t fields_len);
 struct followup_judge_reply FOLLOWUP_EXPORTED(followup_judge)(const uint8_t *lines, size_t lines_len, uint8_t *steps, size_t steps_len);
 struct followup_judge_reply FOLLOWUP_EXPORTED(followup_judge_text)(const uint8_t *text, size_t text_len, uint8_t *steps, size_t steps_len);
+struct followup_carry_reply FOLLOWUP_EXPORTED(followup_carry)(const uint8_t *lines, size_t lines_len, uint8_t *records, size_t records_len);
 struct followup_step FOLLOWUP_EXPORTED(followup_step_at)(const uint8_t *steps, size_t steps_len, size_t k);
 struct followup_span FOLLOWUP_EXPORTED(followup_line_span)(const uint8_t *text, size_t text_len, size_t number);
 
@@ -187,6 +203,17 @@ static inline struct followup_judge_reply followup_judge_text(const uint8_t *tex
 {
     uint8_t none = 0;
     return FOLLOWUP_EXPORTED(followup_judge_text)(text_len ? text : &none, text_len, steps_len ? steps : &none, steps_len);
+}
+
+/* Carries the rules out on lent lines, 32 bytes each, as reading gives them, and gives the records as R lines, 32 bytes each: 82, the
+ * kind, six numbers; unused ones are 0. The table's rows come first, equal ones once, then what was made, in the order in which it was
+ * made. The records are visited in that order and for each the rules in sheet order; a rule fires once for the same values of its
+ * carried marks, and its fresh marks then get, by rising mark, the next numbers after the table's largest value. At least
+ * FOLLOWUP_RECORDS_BYTES are to be lent. A good call changes the first records * 32 bytes. Refusals: 12; 8; 11; 21; 22; 23. */
+static inline struct followup_carry_reply followup_carry(const uint8_t *lines, size_t lines_len, uint8_t *records, size_t records_len)
+{
+    uint8_t none = 0;
+    return FOLLOWUP_EXPORTED(followup_carry)(lines_len ? lines : &none, lines_len, records_len ? records : &none, records_len);
 }
 
 /* Step k, counted from 0, of the lent steps: the trail's steps are 0 to trail - 1, the loop's trail to trail + loop - 1. All zeros
@@ -233,8 +260,14 @@ static inline const char *followup_refusal_text(uint32_t refusal)
         return "A record has one to six fields.";
     case FOLLOWUP_SHAPES_OVER:
         return "The reachable records show more than 512 shapes.";
-    case FOLLOWUP_STEPS_SHORT:
-        return "Fewer than 4,096 steps are lent.";
+    case FOLLOWUP_STEPS_SHORT: /* and FOLLOWUP_RECORDS_SHORT */
+        return "Fewer than 4,096 steps, or with carrying out records, are lent.";
+    case FOLLOWUP_SHEET_ENDLESS:
+        return "The follow-ups never come to rest, so that they can't be carried out.";
+    case FOLLOWUP_RECORDS_OVER:
+        return "The rules make more than 4,096 records, the rows among them.";
+    case FOLLOWUP_NUMBER_OVER:
+        return "A fresh number over 99,999,999 would be needed.";
     default:
         return "There is no refusal of this number.";
     }
@@ -261,7 +294,7 @@ static inline void followup_put_u32(uint8_t *bytes, uint32_t number)
     bytes[3] = (uint8_t)(number >> 24);
 }
 
-/* Number k of line n, both counted from 0: number 0 is the letter's byte, 1 the kind, 2 to 7 the six numbers. */
+/* Number k of line or record n, both counted from 0: number 0 is the letter's byte, 1 the kind, 2 to 7 the six numbers. */
 static inline uint32_t followup_line_number(const uint8_t *lines, size_t n, size_t k)
 {
     return followup_u32(lines + n * FOLLOWUP_LINE_BYTES + k * 4);

@@ -1,5 +1,5 @@
 #!/bin/sh
-# Builds the header, the tool and the test against the library and runs them, also with the compiler's sanitizers:
+# Builds the header, the tools and the test against the library and runs them, also with the compiler's sanitizers:
 #   host/run.sh [ARCHIVE]
 # The archive is target/staticlib/libfollowup.a where none is named. Exit status 0 where all is well, 1 where something fails, 2 where
 # there is no archive.
@@ -43,12 +43,27 @@ quiet() {
     shift 2
     "$@" >"$work/said" 2>"$work/why"
     if [ $? -ne "$wanted" ] || [ -s "$work/said" ] || [ ! -s "$work/why" ]; then
-        fail "judge_file: $what"
+        fail "$what"
     fi
 }
 
-# tool PROGRAM: what the tool says of each example and of lines that are not in the form is as stored; what can't be read gives 2.
-tool() {
+# unreadable PROGRAM SHEET: arguments that the tool does not know, what can't be read and what can't be printed give 2.
+unreadable() {
+    "$work/$1" --help | grep -q '^usage: ' || fail "$1 --help"
+    quiet 2 "$1: no argument" "$work/$1"
+    quiet 2 "$1: an option that is not known" "$work/$1" --loud "$2"
+    quiet 2 "$1: two files" "$work/$1" "$2" "$2"
+    quiet 2 "$1: a file that is not there" "$work/$1" "$work/none.sheet"
+    quiet 2 "$1: a directory" "$work/$1" "$work"
+    quiet 2 "$1: names that are not there" "$work/$1" --names "$work/none.names" "$2"
+    quiet 2 "$1: names that are none" "$work/$1" --names "$2" "$2"
+    quiet 2 "$1: a directory as standard input" sh -c '"$1" - <"$2"' sh "$work/$1" "$work"
+    quiet 2 "$1: a closed standard input" sh -c '"$1" - <&-' sh "$work/$1"
+    quiet 2 "$1: a full device" sh -c '"$1" "$2" >/dev/full' sh "$work/$1" "$2"
+}
+
+# judge_tool PROGRAM: what judge_file says of each example and of lines that are not in the form is as stored.
+judge_tool() {
     judge_file=$work/$1
     {
         for sheet in examples/*.sheet; do
@@ -64,17 +79,26 @@ tool() {
     diff host/judge_file.expected "$work/said" || fail "$1: it says other than host/judge_file.expected"
     "$judge_file" - <examples/loop.sheet >"$work/said" 2>&1
     [ $? -eq 1 ] && grep -q '^standard input: endless' "$work/said" || fail "$1 on standard input"
-    "$judge_file" --help | grep -q '^usage: ' || fail "$1 --help"
-    quiet 2 'no argument' "$judge_file"
-    quiet 2 'an option that is not known' "$judge_file" --loud examples/loop.sheet
-    quiet 2 'two files' "$judge_file" examples/loop.sheet examples/loop.sheet
-    quiet 2 'a file that is not there' "$judge_file" "$work/none.sheet"
-    quiet 2 'a directory' "$judge_file" "$work"
-    quiet 2 'names that are not there' "$judge_file" --names "$work/none.names" examples/loop.sheet
-    quiet 2 'names that are none' "$judge_file" --names examples/loop.sheet examples/loop.sheet
-    quiet 2 'a directory as standard input' sh -c '"$1" - <"$2"' sh "$judge_file" "$work"
-    quiet 2 'a closed standard input' sh -c '"$1" - <&-' sh "$judge_file"
-    quiet 2 'a full device' sh -c '"$1" "$2" >/dev/full' sh "$judge_file" examples/loop.sheet
+    unreadable "$1" examples/loop.sheet
+}
+
+# carry_tool PROGRAM: what carry_file prints for each example and says of a line that is not in the form is as stored.
+carry_tool() {
+    carry_file=$work/$1
+    {
+        for sheet in examples/*.sheet; do
+            "$carry_file" "$sheet"
+            echo "exit status $?"
+        done
+        "$carry_file" --names examples/bank_day.names examples/pallets.sheet
+        echo "exit status $?"
+        printf 'K        1        2\r\n' | "$carry_file" -
+        echo "exit status $?"
+    } >"$work/said" 2>&1
+    diff host/carry_file.expected "$work/said" || fail "$1: it says other than host/carry_file.expected"
+    "$carry_file" - <examples/pallets.sheet >"$work/said" 2>&1
+    [ $? -eq 0 ] && grep -q '^standard input: carried out' "$work/said" || fail "$1 on standard input"
+    unreadable "$1" examples/pallets.sheet
 }
 
 echo '#include "followup.h"' >"$work/alone.c"
@@ -96,7 +120,7 @@ echo '#include "followup.h"
 int main(void) { return followup_version() == FOLLOWUP_VERSION; }' >"$work/number.c"
 gcc -std=c99 $warnings -I"$work/other" "$work/number.c" "$archive" -o "$work/number" || fail 'building with another number'
 "$work/number" || fail 'the number of another header'
-for call in 'read(0, 0, 0, 0)' 'write(0, 0, 0, 0)' 'pattern(0, 0)' 'judge(0, 0, 0, 0)' 'judge_text(0, 0, 0, 0)' 'step_at(0, 0, 0)' 'line_span(0, 0, 0)'; do
+for call in 'read(0, 0, 0, 0)' 'write(0, 0, 0, 0)' 'pattern(0, 0)' 'judge(0, 0, 0, 0)' 'judge_text(0, 0, 0, 0)' 'carry(0, 0, 0, 0)' 'step_at(0, 0, 0)' 'line_span(0, 0, 0)'; do
     echo "#include \"followup.h\"
 int main(void) { return (void)followup_$call, 0; }" >"$work/call.c"
     gcc -std=c99 $warnings -Ihost "$work/call.c" "$archive" -o "$work/call" || fail "building with followup_$call"
@@ -110,17 +134,22 @@ grep -E ' [BbCcDdGgSs] ' "$work/symbols" && fail 'the archive holds memory that 
 grep ' U ' "$work/symbols" | grep -vE ' U (memcpy|memset)$' && fail 'the archive uses more than memcpy and memset'
 echo 'host: the archive holds no memory of its own and uses memcpy and memset alone'
 
-tests='host/test.c host/test_calls.c host/test_sheets.c host/check_steps.c'
+tests='host/test.c host/test_calls.c host/test_sheets.c host/test_carry.c host/check_steps.c host/check_records.c'
 build test $tests
 "$work/test" || fail 'the test'
 build test_sanitized $tests $sanitizers
 "$work/test_sanitized" || fail 'the test with sanitizers'
 
 build judge_file host/judge_file/*.c
-tool judge_file
+judge_tool judge_file
 build judge_file_sanitized host/judge_file/*.c $sanitizers
-tool judge_file_sanitized
-echo 'host: the tool says what is stored, and nothing of what it cannot read'
+judge_tool judge_file_sanitized
+carry_sources='host/carry_file/main.c host/judge_file/sheet.c host/judge_file/words.c host/judge_file/fault.c'
+build carry_file $carry_sources
+carry_tool carry_file
+build carry_file_sanitized $carry_sources $sanitizers
+carry_tool carry_file_sanitized
+echo 'host: the tools say what is stored, and nothing of what they cannot read'
 
 # The program of both READMEs, built from installed files.
 for page in README.md host/README.md; do
@@ -128,11 +157,12 @@ for page in README.md host/README.md; do
     [ ! -f "$work/program.c" ] || cmp "$work/program.c" "$work/readme.c" || fail 'the programs of the two READMEs differ'
     mv "$work/readme.c" "$work/program.c"
 done
-make -s -o prove archive="$archive" tool="$work/made" install PREFIX="$work/prefix" >"$work/said" 2>&1 || { cat "$work/said"; fail 'make install'; }
+make -s -o prove archive="$archive" judge_file="$work/made_judge" carry_file="$work/made_carry" install PREFIX="$work/prefix" >"$work/said" 2>&1 || { cat "$work/said"; fail 'make install'; }
 PKG_CONFIG_PATH=$work/prefix/lib/pkgconfig
 export PKG_CONFIG_PATH
 gcc -O2 $warnings "$work/program.c" $(pkg-config --cflags --libs followup) -o "$work/program" || fail 'building the program of the README'
 [ "$("$work/program" <examples/loop.sheet)" = 'endless: row 1, trail 0, loop 3' ] || fail 'the program of the README'
 quiet 2 'the program of the README on a directory' sh -c '"$1" <"$2"' sh "$work/program" "$work"
 "$work/prefix/bin/judge_file" examples/pallets.sheet >/dev/null || fail 'the installed judge_file'
+"$work/prefix/bin/carry_file" examples/pallets.sheet >/dev/null || fail 'the installed carry_file'
 echo 'host: all is well'

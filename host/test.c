@@ -1,7 +1,7 @@
 /* Tries the library through its C header: answers, refusals, lent memory, odd lengths, small stacks, threads, noise. */
 #define _DEFAULT_SOURCE
 #include "check_steps.h"
-#include "test_sheets.h"
+#include "test_carry.h"
 
 #include <pthread.h>
 #include <stdio.h>
@@ -13,6 +13,9 @@ _Static_assert(sizeof(struct followup_reply) == 24 && offsetof(struct followup_r
 _Static_assert(sizeof(struct followup_judge_reply) == 80 && offsetof(struct followup_judge_reply, verdict) == 16 &&
                    offsetof(struct followup_judge_reply, loop) == 72,
                "layout of a judge's reply");
+_Static_assert(sizeof(struct followup_carry_reply) == 32 && offsetof(struct followup_carry_reply, line) == 8 &&
+                   offsetof(struct followup_carry_reply, records) == 16 && offsetof(struct followup_carry_reply, firings) == 24,
+               "layout of the reply of carrying out");
 _Static_assert(sizeof(struct followup_span) == 16 && offsetof(struct followup_span, end) == 8, "layout of a span");
 _Static_assert(sizeof(struct followup_step) == 10 && offsetof(struct followup_step, fresh) == 8, "layout of a step");
 
@@ -83,6 +86,7 @@ static void try_judge_text(const struct job *judged)
     check(same_reply(&job, judged) && memcmp(result, steps, size) == 0, "the text is judged as its lines are");
 }
 
+/* Judges the lines and, where it is not long, the text; carries the lines out. */
 static struct followup_judge_reply try_judge(void)
 {
     struct job job = try_call(JUDGE, lines, lines_size, FOLLOWUP_STEPS_BYTES + below(100));
@@ -93,6 +97,7 @@ static struct followup_judge_reply try_judge(void)
         check(job.said.shapes <= FOLLOWUP_SHAPES_MAX && job.said.fired <= FOLLOWUP_RULES_MAX && job.said.share <= 100, "figures in their range");
         check(steps_hold(lines, lines_size, result, &job.said), "row, trail, loop and steps are as document 01 says");
     }
+    try_carry(&job);
     return job.said;
 }
 
@@ -112,6 +117,7 @@ static void judge_refuses(const char *name, uint32_t refusal, size_t line)
     subject = name;
     struct job job = try_call(JUDGE, lines, lines_size, FOLLOWUP_STEPS_BYTES);
     check(says(&job, refusal, line), "judging is refused");
+    try_carry(&job);
 }
 
 static void write_refuses(const char *name, size_t lent_size, uint32_t refusal, size_t line)
@@ -153,14 +159,17 @@ static void try_header(void)
         check(job.step.rule == 0 && job.step.head == 0 && job.step.from == 0 && job.step.to == 0 && job.step.fresh == 0, "no second step");
     }
     check(followup_version() == FOLLOWUP_VERSION, "the archive's number is the header's");
-    for (uint32_t refusal = 0; refusal <= 12; refusal++) {
+    for (uint32_t refusal = 0; refusal <= 30; refusal++) {
         const char *words = followup_refusal_text(refusal);
-        check(words[0] != 0 && strcmp(words, followup_refusal_text(13)) != 0, "a sentence for each refusal");
-        for (uint32_t other = 0; other < refusal; other++)
+        int known = refusal <= 12 || (refusal >= 21 && refusal <= 23);
+        check(words[0] != 0 && (strcmp(words, followup_refusal_text(UINT32_MAX)) != 0) == known, "a sentence for each refusal, one for all other numbers");
+        for (uint32_t other = 0; other < refusal && known; other++)
             check(strcmp(words, followup_refusal_text(other)) != 0, "and for each its own");
     }
-    check(strcmp(followup_refusal_text(13), followup_refusal_text(UINT32_MAX)) == 0, "one sentence for unknown numbers");
-    check(FOLLOWUP_TEXT_LINES_BYTES == 52416 && FOLLOWUP_SHEET_LINES_BYTES == 75776 && FOLLOWUP_STEPS_BYTES == 40960, "sizes");
+    check(FOLLOWUP_RECORDS_SHORT == FOLLOWUP_STEPS_SHORT, "12 has two names");
+    check(FOLLOWUP_TEXT_LINES_BYTES == 52416 && FOLLOWUP_SHEET_LINES_BYTES == 75776 && FOLLOWUP_STEPS_BYTES == 40960 &&
+              FOLLOWUP_RECORDS_BYTES == 131072,
+          "sizes");
     end_group();
 }
 
@@ -181,7 +190,8 @@ static void try_example(void)
     sheet("K 1 2;B 1 1 2;H 1 2 3;R 1 7 8");
     try_both_ways();
     judges_as("the example", figures);
-    check(memcmp(result, one_step, 10) == 0, "the one step");
+    job = try_call(JUDGE, lines, lines_size, FOLLOWUP_STEPS_BYTES);
+    check(says(&job, 0, 0) && memcmp(result, one_step, 10) == 0, "the one step");
     end_group();
 }
 
@@ -634,12 +644,15 @@ static void try_small_stack(void)
     try_sheets();
     try_deep();
     try_line_limits();
+    try_carrying();
     small_stack = 0;
     begin_group("stack");
     for (size_t call = 0; call < CALLS; call++)
         check(stack_used[call] < FOLLOWUP_STACK, "there is some left");
-    snprintf(note, sizeof note, " (bytes used: %zu by a thread that calls nothing, %zu with reading, %zu with writing, %zu with judging, %zu with judging a text)",
-             stack_used[NOTHING], stack_used[READ], stack_used[WRITE], stack_used[JUDGE], stack_used[JUDGE_TEXT]);
+    snprintf(note, sizeof note,
+             " (bytes used: %zu by a thread that calls nothing, %zu with reading, %zu with writing, %zu with judging, %zu with judging a text, "
+             "%zu with carrying out)",
+             stack_used[NOTHING], stack_used[READ], stack_used[WRITE], stack_used[JUDGE], stack_used[JUDGE_TEXT], stack_used[CARRY]);
     end_group();
 }
 
@@ -748,6 +761,7 @@ static void random_sheet(void)
 static void try_random_sheets(void)
 {
     size_t total = 0, good = 0, endless = 0, deep = 0;
+    unsigned long runs = runs_checked;
     begin_group("random sheets");
     while (total < MILLION) {
         random_sheet();
@@ -759,8 +773,9 @@ static void try_random_sheets(void)
         endless += said.verdict == FOLLOWUP_ENDLESS;
         deep += said.deepest > 1;
     }
-    check(good > 0 && endless > 0 && deep > 0, "sheets of each sort");
-    snprintf(note, sizeof note, " (%zu judged, %zu endless, %zu deeper than 1)", good, endless, deep);
+    runs = runs_checked - runs;
+    check(good > 0 && endless > 0 && deep > 0 && runs > 0, "sheets of each sort");
+    snprintf(note, sizeof note, " (%zu judged, %zu endless, %zu deeper than 1, %lu carried out)", good, endless, deep, runs);
     end_group();
 }
 
@@ -798,6 +813,7 @@ static void try_lines_with_writing(void)
         check(says(&judged, 8, wrote.said.line), "judging refuses the line that writing refuses");
     else
         check(says(&judged, 11, 0) || (judged.said.refusal == 0 && steps_hold(lines, lines_size, result, &judged.said)), "lines that writing takes are judged");
+    try_carry(&judged);
 }
 
 static void try_random_lines(void)
@@ -896,6 +912,7 @@ int main(void)
     try_nothing();
     try_patterns();
     try_deep();
+    try_carrying();
     try_small_stack();
     try_threads();
     try_random_sheets();

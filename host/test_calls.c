@@ -15,7 +15,7 @@
 
 unsigned long checks, failures;
 const char *subject = "";
-char note[200];
+char note[300];
 
 static unsigned long group_start;
 static const char *group = "";
@@ -133,10 +133,16 @@ static void keep_reply(struct job *job, struct followup_reply reply)
     job->count = reply.count;
 }
 
+static void keep_carry_reply(struct job *job, struct followup_carry_reply reply)
+{
+    keep_reply(job, (struct followup_reply){reply.refusal, reply.line, reply.records});
+    job->firings = reply.firings;
+}
+
 void *make_call(void *arg)
 {
     struct job *job = arg;
-    job->count = 0;
+    job->count = job->firings = 0;
     if (job->call == READ)
         keep_reply(job, followup_read(job->in, job->in_len, job->out, job->out_len));
     else if (job->call == WRITE)
@@ -147,6 +153,8 @@ void *make_call(void *arg)
         job->said = followup_judge(job->in, job->in_len, job->out, job->out_len);
     else if (job->call == JUDGE_TEXT)
         job->said = followup_judge_text(job->in, job->in_len, job->out, job->out_len);
+    else if (job->call == CARRY)
+        keep_carry_reply(job, followup_carry(job->in, job->in_len, job->out, job->out_len));
     else if (job->call == STEP)
         job->step = followup_step_at(job->in, job->in_len, job->number);
     return NULL;
@@ -179,25 +187,27 @@ size_t counted(const struct job *job)
         return 0;
     if (job->call == JUDGE || job->call == JUDGE_TEXT)
         return (job->said.trail + job->said.loop) * FOLLOWUP_STEP_BYTES;
-    return job->call == READ ? job->count * FOLLOWUP_LINE_BYTES : job->count;
+    return job->call == WRITE ? job->count : job->count * FOLLOWUP_LINE_BYTES;
 }
 
-/* Whether the answer is in the form: line 0 in a good one, no figure beside the line in a refusal. */
+/* Whether the answer is in the form: line 0 in a good one, no figure beside the line in a refusal; 21 to 23 of carrying out alone. */
 static int reply_in_form(const struct job *job)
 {
     const struct followup_judge_reply *said = &job->said;
     if (said->refusal == 0)
         return said->line == 0;
-    return said->refusal <= 12 && job->count == 0 && said->verdict == 0 && said->deepest == 0 && said->shapes == 0 && said->fired == 0 &&
+    if (said->refusal > 12 && (job->call != CARRY || said->refusal < 21 || said->refusal > 23))
+        return 0;
+    return job->count == 0 && job->firings == 0 && said->verdict == 0 && said->deepest == 0 && said->shapes == 0 && said->fired == 0 &&
            said->share == 0 && said->row == 0 && said->trail == 0 && said->loop == 0;
 }
 
 int same_reply(const struct job *a, const struct job *b)
 {
     const struct followup_judge_reply *x = &a->said, *y = &b->said;
-    return x->refusal == y->refusal && x->line == y->line && a->count == b->count && x->verdict == y->verdict && x->deepest == y->deepest &&
-           x->shapes == y->shapes && x->fired == y->fired && x->share == y->share && x->row == y->row && x->trail == y->trail &&
-           x->loop == y->loop;
+    return x->refusal == y->refusal && x->line == y->line && a->count == b->count && a->firings == b->firings && x->verdict == y->verdict &&
+           x->deepest == y->deepest && x->shapes == y->shapes && x->fired == y->fired && x->share == y->share && x->row == y->row &&
+           x->trail == y->trail && x->loop == y->loop;
 }
 
 /* Makes a call twice and checks what holds of every call. `result` is what it counts. */

@@ -11,7 +11,7 @@
 
 extern unsigned long checks, failures;
 extern const char *subject; /* what is tried, for the message of a check that fails */
-extern char note[200];      /* what the group's line says beside its name and count */
+extern char note[300];      /* what the group's line says beside its name and count */
 
 void check(int good, const char *what);
 void begin_group(const char *name);
@@ -27,7 +27,7 @@ extern uint8_t result[RESULT_SIZE]; /* what the last call counted in its answer 
 
 void map_memory(void);
 
-enum call { NOTHING, READ, WRITE, PATTERN, JUDGE, JUDGE_TEXT, STEP, CALLS };
+enum call { NOTHING, READ, WRITE, PATTERN, JUDGE, JUDGE_TEXT, CARRY, STEP, CALLS };
 
 struct job {
     enum call call;
@@ -36,8 +36,9 @@ struct job {
     uint8_t *out;
     size_t out_len;
     struct followup_judge_reply said; /* of the other calls: refusal and line */
-    size_t count;
-    size_t number; /* which step */
+    size_t count;   /* of carrying out: records */
+    size_t firings; /* of carrying out */
+    size_t number;  /* which step */
     struct followup_step step;
 };
 

@@ -13,6 +13,8 @@ static const char usage[] =
     "  -h, --help     this text\n"
     "Exit status: 0 settles, 1 endless, 2 refused or unreadable.\n";
 
+const char *const program = "judge_file";
+
 static struct sheet sheet;
 
 struct options {
@@ -41,26 +43,6 @@ static int take_options(struct options *options, int argc, char **argv)
     return options->help || options->file != NULL;
 }
 
-/* Reads the sheet's text to its end. Answers 0 and says why where that fails. */
-static int read_text(const char *name)
-{
-    int standard = strcmp(name, "-") == 0;
-    FILE *in = standard ? stdin : fopen(name, "rb");
-    sheet.name = standard ? "standard input" : name;
-    if (in == NULL) {
-        fprintf(stderr, "judge_file: cannot open %s: %s\n", name, strerror(errno));
-        return 0;
-    }
-    errno = 0;
-    sheet.size = fread(sheet.text, 1, sizeof sheet.text, in);
-    int good = !ferror(in);
-    if (!good)
-        fprintf(stderr, "judge_file: cannot read %s: %s\n", sheet.name, strerror(errno));
-    if (!standard)
-        fclose(in);
-    return good;
-}
-
 static int judge_text(int dot)
 {
     sheet.said = followup_judge_text(sheet.text, sheet.size, sheet.steps, sizeof sheet.steps);
@@ -87,12 +69,12 @@ int main(int argc, char **argv)
     } else {
         if (options.names != NULL && !read_names(&sheet, options.names))
             return 2;
-        if (!read_text(options.file))
+        if (!read_text(&sheet, options.file))
             return 2;
         status = judge_text(options.dot);
     }
     if (fflush(stdout) != 0 || ferror(stdout)) {
-        fprintf(stderr, "judge_file: cannot print: %s\n", strerror(errno));
+        fprintf(stderr, "%s: cannot print: %s\n", program, strerror(errno));
         return 2;
     }
     return status;

@@ -65,7 +65,7 @@ int read_names(struct sheet *sheet, const char *file)
 {
     FILE *in = fopen(file, "r");
     if (in == NULL) {
-        fprintf(stderr, "judge_file: cannot open %s: %s\n", file, strerror(errno));
+        fprintf(stderr, "%s: cannot open %s: %s\n", program, file, strerror(errno));
         return 0;
     }
     char line[256];
@@ -74,15 +74,34 @@ int read_names(struct sheet *sheet, const char *file)
     while (good && fgets(line, sizeof line, in) != NULL) {
         number++;
         if (line[strspn(line, " \r\n")] != 0 && !take_name(sheet, line)) {
-            fprintf(stderr, "judge_file: %s, line %zu: a kind from 1 to 64, a blank and a name of up to 40 characters are wanted, as in: 1 pallet\n",
-                    file, number);
+            fprintf(stderr, "%s: %s, line %zu: a kind from 1 to 64, a blank and a name of up to 40 characters are wanted, as in: 1 pallet\n",
+                    program, file, number);
             good = 0;
         }
     }
     if (ferror(in)) {
-        fprintf(stderr, "judge_file: cannot read %s: %s\n", file, strerror(errno));
+        fprintf(stderr, "%s: cannot read %s: %s\n", program, file, strerror(errno));
         good = 0;
     }
     fclose(in);
+    return good;
+}
+
+int read_text(struct sheet *sheet, const char *file)
+{
+    int standard = strcmp(file, "-") == 0;
+    FILE *in = standard ? stdin : fopen(file, "rb");
+    sheet->name = standard ? "standard input" : file;
+    if (in == NULL) {
+        fprintf(stderr, "%s: cannot open %s: %s\n", program, file, strerror(errno));
+        return 0;
+    }
+    errno = 0;
+    sheet->size = fread(sheet->text, 1, sizeof sheet->text, in);
+    int good = !ferror(in);
+    if (!good)
+        fprintf(stderr, "%s: cannot read %s: %s\n", program, sheet->name, strerror(errno));
+    if (!standard)
+        fclose(in);
     return good;
 }

@@ -1,4 +1,4 @@
-/* A sheet that was read, with what the judge said of it: what the other parts of judge_file speak of. */
+/* A sheet that was read, with what the judge said of it: what the other parts of judge_file speak of, and carry_file too. */
 #ifndef JUDGE_FILE_SHEET_H
 #define JUDGE_FILE_SHEET_H
 
@@ -16,7 +16,7 @@ struct sheet {
     uint8_t lines[FOLLOWUP_TEXT_LINES_BYTES];
     size_t line_count;
     uint8_t steps[FOLLOWUP_STEPS_BYTES];
-    struct followup_judge_reply said;       /* the judge's answer */
+    struct followup_judge_reply said;       /* the judge's answer; with carry_file refusal and line alone */
     char names[FOLLOWUP_KINDS_MAX + 1][NAME_SIZE]; /* a name for each kind; empty where none was given */
 };
 
@@ -29,6 +29,8 @@ struct step_lines {
     uint32_t made;      /* the kind of the new record */
 };
 
+extern const char *const program; /* main.c: the tool's name, for what it says on standard error */
+
 /* sheet.c */
 size_t lines_with(const struct sheet *sheet, char letter);
 size_t line_of(const struct sheet *sheet, char letter, size_t nth); /* counted from 1; 0 where there is none */
@@ -36,6 +38,7 @@ uint32_t number_in(const struct sheet *sheet, size_t line, size_t number); /* nu
 size_t width_of(const struct sheet *sheet, uint32_t kind);
 struct step_lines step_lines(const struct sheet *sheet, size_t k); /* step k, counted from 0 */
 int read_names(struct sheet *sheet, const char *file);             /* 0 where that fails; it says why */
+int read_text(struct sheet *sheet, const char *file);              /* to its end; - is standard input; 0 where that fails; it says why */
 
 /* words.c */
 void put_kind(FILE *out, const struct sheet *sheet, uint32_t kind);

@@ -3,8 +3,8 @@
 //! components and, where none holds a fresh link, the longest path.
 
 use crate::layout::{first_appearance, read, Refusal, Rule, Sheet, MOST_BYTES};
+use crate::mix::Mixing;
 use std::collections::HashMap;
-use std::hash::{BuildHasherDefault, Hasher};
 
 const LEAST_STEPS: usize = 20_480;
 const MOST_SHAPES: usize = 512;
@@ -53,6 +53,12 @@ pub fn judge(numbers: &[u32], lent_steps: usize) -> Result<Verdict, Refusal> {
         None => show_deepest(&graph, &parts, &mut verdict),
     }
     Ok(verdict)
+}
+
+/// Whether a sheet settles; none where more than 512 shapes are reached.
+pub(crate) fn settles(sheet: &Sheet) -> Option<bool> {
+    let graph = explore(sheet)?;
+    Some(fresh_inside(&graph, &components(&graph)).is_none())
 }
 
 /// Judges a text: 12 comes before reading's refusals, 1 to 6, and 11 after them.
@@ -257,26 +263,6 @@ fn make(source: &Source, digits: &[u8; 6]) -> Made {
     made
 }
 
-#[derive(Default)]
-struct Mix(u64);
-
-impl Hasher for Mix {
-    fn finish(&self) -> u64 {
-        self.0
-    }
-
-    fn write(&mut self, bytes: &[u8]) {
-        for &byte in bytes {
-            self.write_u32(u32::from(byte));
-        }
-    }
-
-    fn write_u32(&mut self, number: u32) {
-        let mixed = (self.0 ^ u64::from(number)).wrapping_mul(0x9e37_79b9_7f4a_7c15);
-        self.0 = mixed ^ mixed >> 32;
-    }
-}
-
 /// Which links into a node the shape `stamp` already has: a bit for each class
 /// it comes from, carried ones first, then fresh ones.
 #[derive(Clone, Copy)]
@@ -289,7 +275,7 @@ struct Seen {
 #[derive(Default)]
 struct Explorer {
     graph: Graph,
-    index: HashMap<u32, u16, BuildHasherDefault<Mix>>,
+    index: HashMap<u32, u16, Mixing>,
     seen: Vec<Seen>,
     pending: [Vec<Link>; 6],
 }

@@ -10,7 +10,7 @@ pub struct Refusal {
 }
 
 pub const MOST_BYTES: usize = 32_768;
-const MOST_NUMBER: u32 = 99_999_999;
+pub const MOST_NUMBER: u32 = 99_999_999;
 const MOST_KIND: u32 = 64;
 const MOST_WIDTH: u32 = 6;
 const MOST_MARK: u32 = 12;
@@ -22,7 +22,7 @@ const COLUMN: usize = 9;
 const K: u32 = b'K' as u32;
 const B: u32 = b'B' as u32;
 const H: u32 = b'H' as u32;
-const R: u32 = b'R' as u32;
+pub(crate) const R: u32 = b'R' as u32;
 
 fn refusal(number: u32, line: usize) -> Refusal {
     Refusal { number, line }

@@ -26,6 +26,16 @@ pub struct JudgeReply {
     pub turns: usize,
 }
 
+/// What carrying out answers: refusal 0 and the counts, or a refusal with its number and line.
+#[repr(C)]
+#[derive(Clone, Copy, Debug, PartialEq, Eq)]
+pub struct CarryReply {
+    pub refusal: u32,
+    pub line: usize,
+    pub records: usize,
+    pub firings: usize,
+}
+
 /// A step as a record.
 #[repr(C)]
 #[derive(Clone, Copy, Debug, PartialEq, Eq)]
@@ -71,6 +81,12 @@ extern "C" {
         steps: *mut u8,
         steps_len: usize,
     ) -> JudgeReply;
+    fn followup_carry_v1(
+        lines: *const u8,
+        lines_len: usize,
+        records: *mut u8,
+        records_len: usize,
+    ) -> CarryReply;
     fn followup_step_at_v1(steps: *const u8, steps_len: usize, k: usize) -> Step;
     fn followup_line_span_v1(text: *const u8, text_len: usize, number: usize) -> Span;
 }
@@ -101,6 +117,12 @@ pub fn judge(lines: &[u8], steps: &mut [u8]) -> JudgeReply {
 /// Judges a text; steps are ten bytes each.
 pub fn judge_text(text: &[u8], steps: &mut [u8]) -> JudgeReply {
     unsafe { followup_judge_text_v1(text.as_ptr(), text.len(), steps.as_mut_ptr(), steps.len()) }
+}
+
+/// Carries lent lines out, 32 bytes each; records are 32 bytes each too.
+pub fn carry(lines: &[u8], records: &mut [u8]) -> CarryReply {
+    let (lent, size) = (records.as_mut_ptr(), records.len());
+    unsafe { followup_carry_v1(lines.as_ptr(), lines.len(), lent, size) }
 }
 
 /// Step `k`, counted from 0, of lent steps.

@@ -1,10 +1,14 @@
 //! Random inputs for comparing two implementations: sheets of many styles,
 //! their text and their lent lines, whole and damaged, and the sizes that are lent.
 
+pub mod carrying;
+pub mod carrying_series;
 pub mod damage;
 pub mod limits;
 pub mod series;
 pub mod sheets;
+
+use crate::Line;
 
 /// A seeded generator of numbers (splitmix64).
 pub struct Random(u64);
@@ -69,15 +73,20 @@ pub struct Input {
     pub lines: Vec<u8>,
     pub lent_text: usize,
     pub lent_steps: usize,
+    pub lent_records: usize,
     pub fields: Vec<u8>,
 }
 
 const LINE: usize = 32;
 const ALL_STEPS: usize = 40_960;
+const ALL_RECORDS: usize = 131_072;
 
 impl Input {
     pub fn new(random: &mut Random) -> Input {
-        let (style, sheet) = sheets::random(random);
+        let (style, sheet) = match random.below(8) {
+            0 => carrying::random(random),
+            _ => sheets::random(random),
+        };
         let mut lines = sheet.lines();
         if random.chance(50) {
             damage::line_too_many(random, &mut lines);
@@ -99,7 +108,23 @@ impl Input {
             lines: bytes,
             lent_text,
             lent_steps: lent_steps(random),
+            lent_records: lent_records(random),
             fields: fields(random),
+        }
+    }
+
+    /// Whole lines with enough lent for all but the records, for which so much is lent.
+    pub fn of_lines(style: &'static str, lines: &[Line], lent_records: usize) -> Input {
+        let text = sheets::text_of(lines);
+        Input {
+            style,
+            lent_lines: lines.len() * LINE,
+            lines: bytes_of(lines.as_flattened()),
+            lent_text: text.len(),
+            text,
+            lent_steps: ALL_STEPS,
+            lent_records,
+            fields: bytes_of(&[7, 8, 7]),
         }
     }
 }
@@ -138,6 +163,17 @@ fn lent_steps(random: &mut Random) -> usize {
         3..=6 => ALL_STEPS + random.between(1, 11),
         7 | 8 => ALL_STEPS + random.below(2_000),
         _ => ALL_STEPS,
+    }
+}
+
+fn lent_records(random: &mut Random) -> usize {
+    match random.below(60) {
+        0 => random.pick(&[0, 1, 4, 32]),
+        1 => ALL_RECORDS - random.pick(&[1, 2, 3, 4, 5, 31, 32, 33]),
+        2 => random.below(ALL_RECORDS),
+        3..=6 => ALL_RECORDS + random.between(1, 33),
+        7 | 8 => ALL_RECORDS + random.below(2_000),
+        _ => ALL_RECORDS,
     }
 }
 

@@ -1,12 +1,12 @@
 -- A list filled from the front, and numbers of any width as bytes. Assumes nothing.
-use mathlib.Core.Path.{_≡_, refl, sym, ap, _∙_}
+use mathlib.Core.Path.{_≡_, refl, sym, ap, ap₂, _∙_}
 use mathlib.Core.List.{List, [], _∷_, _++_, append-assoc, append-nil}
-use Prim.Native.Nat.{ℕ, zero, suc, _+_, _*_, _/_, _%_, _<_, _≤_}
-use native.Mathlib.Nat.{mul-suc, mul-zero, mul-le-mul-left, div-div-eq-div-mul}
+use Prim.Native.Nat.{ℕ, zero, suc, _+_, _-_, _*_, _/_, _%_, _<_, _≤_}
+use native.Mathlib.Nat.{mul-suc, mul-zero, mul-add, mul-le-mul-left, div-div-eq-div-mul}
 use native.Mathlib.Numerals.{add-one, add-two, add-three}
 use native.Mathlib.Omega.{arith}
-use lib.ListN.{length, getD, set, take, drop, length-append}
-use lib.Seq.{sets, sets-eq, length-sets, take-suc, drop-cons, drop-drop, drop-append-add, take-at, length-take-le}
+use lib.ListN.{length, getD, set, take, drop, length-append, length-drop, take-append-drop}
+use lib.Seq.{sets, sets-eq, length-sets, take-suc, drop-cons, drop-drop, drop-append-add, getD-drop, take-add, take-at, length-take-le}
 use Rattle.followup.specs.Bytes.{number, numbersFrom, bytesOf, allBytes}
 
 -- ---- a list filled from the front
@@ -157,3 +157,59 @@ encoding-four {i = i} h e = rw (add-one (4 * i), add-two (4 * i), add-three (4 *
 pub encoding-two : {numbers before : List ℕ} {n : ℕ} {after : List ℕ} {i : ℕ} → i < n → Encoding 2 numbers before n after i
     → Encoding 2 numbers before n (set (set after (2 * i) (getD numbers i 0 % 256)) (2 * i + 1) (getD numbers i 0 / 256 % 256)) (i + 1)
 encoding-two {i = i} h e = rw (add-one (2 * i)) (encoding-more refl h e)
+
+-- ---- bytes that hold numbers
+
+abbrev pub Bytes : List ℕ → Type 0
+Bytes xs = (i : ℕ) → getD xs i 0 < 256
+
+-- The bytes of the number that bytes are.
+number-back : (w : ℕ) (xs : List ℕ) → w ≤ length xs → Bytes xs → bytesOf w (number (take w xs)) ≡ take w xs
+number-back zero xs h b = refl
+number-back (suc w) [] h b = absurd (omega arith)
+number-back (suc w) (x ∷ xs) h b =
+    let v : ℕ = number (take w xs) in
+    let low : (x + 256 * v) % 256 ≡ x = omega (arith, b 0) in
+    let high : (x + 256 * v) / 256 ≡ v = omega (arith, b 0) in
+    ap₂ (λ (p q : ℕ). p ∷ bytesOf w q) low high ∙ ap (λ (r : List ℕ). x ∷ r) (number-back w xs (omega arith) (λ i. b (suc i)))
+
+-- The bytes of the numbers that bytes hold.
+bytes-back : (w n : ℕ) (xs : List ℕ) → w * n ≤ length xs → Bytes xs → allBytes w (numbersFrom w n xs) ≡ take (w * n) xs
+bytes-back w zero xs h b = ap (λ (k : ℕ). take k xs) (sym (mul-zero w))
+bytes-back w (suc n) xs h b =
+    let size : w + w * n ≡ w * suc n = omega (arith, mul-suc w n) in
+    ap₂ (λ (x y : List ℕ). x ++ y) (number-back w xs (omega arith) b)
+    (bytes-back w n (drop w xs) (omega (arith, length-drop w xs)) (λ i. rw getD-drop (b (w + i))))
+    ∙ sym (take-add w (w * n) xs) ∙ ap (λ (k : ℕ). take k xs) size
+
+-- The numbers from place k on.
+pub drop-numbers : (w k m : ℕ) (xs : List ℕ) → drop k (numbersFrom w (k + m) xs) ≡ numbersFrom w m (drop (w * k) xs)
+drop-numbers w zero m xs =
+    ap (λ (n : ℕ). numbersFrom w n xs) (let e : 0 + m ≡ m = omega arith in e) ∙ ap (λ (n : ℕ). numbersFrom w m (drop n xs)) (sym (mul-zero w))
+drop-numbers w (suc k) m xs =
+    let e : suc k + m ≡ suc (k + m) = omega arith in
+    let d : w + w * k ≡ w * suc k = omega (arith, mul-suc w k) in
+    ap (λ (n : ℕ). drop (suc k) (numbersFrom w n xs)) e
+    ∙ drop-numbers w k m (drop w xs)
+    ∙ ap (numbersFrom w m) (drop-drop (w * k) w xs ∙ ap (λ (n : ℕ). drop n xs) d)
+
+-- New numbers at the front of lent bytes.
+pub new-front : (w n : ℕ) (new before : List ℕ) → length new ≤ n → w * n ≤ length before → Bytes before
+    → allBytes w (new ++ drop (length new) (numbersFrom w n before)) ++ drop (w * length (new ++ drop (length new) (numbersFrom w n before))) before
+    ≡ allBytes w new ++ drop (w * length new) before
+new-front w n new before h room b =
+    let k : ℕ = length new in
+    let m : ℕ = n - k in
+    let ys : List ℕ = drop (w * k) before in
+    let split : n ≡ k + m = omega arith in
+    let parts : w * (k + m) ≡ w * k + w * m = mul-add w k m in
+    let all : w * n ≡ w * k + w * m = ap (λ (j : ℕ). w * j) split ∙ parts in
+    let later : drop k (numbersFrom w n before) ≡ numbersFrom w m ys = ap (λ (j : ℕ). drop k (numbersFrom w j before)) split ∙ drop-numbers w k m before in
+    let size : length (new ++ numbersFrom w m ys) ≡ k + m = length-append new (numbersFrom w m ys) ∙ ap (λ (j : ℕ). k + j) (length-numbersFrom w m ys) in
+    let long : w * m ≤ length ys = omega (arith, length-drop (w * k) before, all) in
+    ap (λ (ns : List ℕ). allBytes w (new ++ ns) ++ drop (w * length (new ++ ns)) before) later
+    ∙ ap₂ (λ (x y : List ℕ). x ++ y)
+    (allBytes-append w new (numbersFrom w m ys) ∙ ap (λ (r : List ℕ). allBytes w new ++ r) (bytes-back w m ys long (λ i. rw getD-drop (b (w * k + i)))))
+    (ap (λ (j : ℕ). drop (w * j) before) size ∙ ap (λ (j : ℕ). drop j before) parts ∙ sym (drop-drop (w * m) (w * k) before))
+    ∙ append-assoc (allBytes w new) (take (w * m) ys) (drop (w * m) ys)
+    ∙ ap (λ (r : List ℕ). allBytes w new ++ r) (take-append-drop (w * m) ys)

@@ -7,4 +7,5 @@ pub mod ReadLaws
 pub mod Truncated
 pub mod StepBytes
 pub mod StepAt
+pub mod RecordBytes
 pub mod TextLaws

@@ -6,11 +6,10 @@ use native.Mathlib.Omega.{arith}
 use borrow.Author.Tests.{le-leb}
 use lib.ListN.{length, take, drop, length-drop}
 use lib.Seq.{take-all, drop-drop}
-use Rattle.steps.specs.Showing.{shownAt, noRecord}
+use Rattle.steps.specs.Showing.{shownAt}
 use Rattle.steps.proofs.ShowingLaws.{shownAt-part, shownAt-none}
 use Rattle.followup.specs.Bytes.{number, numbersFrom, numbersOf}
-use Rattle.followup.proofs.ByteLaws.{length-numbersFrom}
-use Rattle.followup.proofs.StepBytes.{drop-numbers}
+use Rattle.followup.proofs.ByteLaws.{length-numbersFrom, drop-numbers}
 
 -- Of more than five numbers the first step is by the first five.
 first-five : (m : ℕ) (xs : List ℕ) → shownAt (numbersFrom 2 (suc (suc (suc (suc (suc m))))) xs) 0 ≡ shownAt (numbersFrom 2 5 xs) 0
@@ -27,7 +26,7 @@ step-there bytes k there =
     let bytes-at : 2 * (k * 5) ≡ 10 * k = omega arith in
     let five : ℕ = suc (suc (suc (suc (suc m)))) in
     let rest : drop (k * 5) (numbersOf 2 bytes) ≡ numbersFrom 2 five (drop (10 * k) bytes) =
-    ap (λ (l : ℕ). drop (k * 5) (numbersFrom 2 l bytes)) split ∙ drop-numbers (k * 5) five bytes ∙ ap (λ (l : ℕ). numbersFrom 2 five (drop l bytes)) bytes-at in
+    ap (λ (l : ℕ). drop (k * 5) (numbersFrom 2 l bytes)) split ∙ drop-numbers 2 (k * 5) five bytes ∙ ap (λ (l : ℕ). numbersFrom 2 five (drop l bytes)) bytes-at in
     let part = shownAt-part (numbersOf 2 bytes) k (omega (arith, there, size)) in
     let all = take-all (length (numbersOf 2 bytes) - k * 5) (drop (k * 5) (numbersOf 2 bytes)) (omega (arith, length-drop (k * 5) (numbersOf 2 bytes))) in
     sym (first-five m (drop (10 * k) bytes)) ∙ ap (λ l. shownAt l 0) (sym (all ∙ rest)) ∙ part

@@ -1,74 +1,22 @@
 -- Lent steps as bytes: what judging puts at their front, and the rest as it was. Assumes nothing.
-use mathlib.Core.Path.{_≡_, refl, sym, subst, ap, ap₂, _∙_}
-use mathlib.Core.List.{List, [], _∷_, _++_, append-assoc}
-use Prim.Native.Nat.{ℕ, zero, suc, _+_, _-_, _*_, _/_, _%_, _≤_, _<_}
+use mathlib.Core.Path.{_≡_, refl, sym, subst, ap, _∙_}
+use mathlib.Core.List.{List, [], _++_}
+use Prim.Native.Nat.{ℕ, _+_, _*_, _/_, _≤_, _<_}
 use native.Mathlib.Omega.{arith}
 use borrow.Author.Tests.{lt-ltb}
-use lib.ListN.{length, getD, take, drop, length-append, length-drop, take-append-drop}
-use lib.Seq.{take-at, drop-drop, getD-drop}
+use lib.ListN.{length, take, drop}
+use lib.Seq.{take-at}
 use Rattle.patterns.specs.Outcome.{Outcome, good, refused}
 use Rattle.sheet.specs.Line.{Line}
 use Rattle.sheet.specs.Write.{sheetHeld}
 use Rattle.chase.specs.Steps.{stepNumbers}
 use Rattle.chase.specs.Judge.{Verdict, Judgement, judged, refuses, Right, Refuses, short, wrong, many, JudgeMeets, shapeLimit}
 use Rattle.chase.proofs.StepLaws.{length-numbers}
-use Rattle.followup.specs.Bytes.{numbersFrom, numbersOf, allBytes}
+use Rattle.followup.specs.Bytes.{numbersOf, allBytes}
 use Rattle.followup.specs.Reply.{JudgeReplies, Judges, JudgesNumbers, JudgesBytes, textRead, TextMeets, JudgesText}
 use Rattle.followup.specs.declared.JudgeReply.{JudgeReply}
-use Rattle.followup.proofs.ByteLaws.{length-numbersFrom, allBytes-append}
+use Rattle.followup.proofs.ByteLaws.{length-numbersFrom, Bytes, new-front}
 use Rattle.followup.proofs.Truncated.{sheet-truncated}
-
--- ---- numbers of two bytes
-
-abbrev pub Bytes : List ℕ → Type 0
-Bytes xs = (i : ℕ) → getD xs i 0 < 256
-
--- The bytes of the numbers that bytes hold.
-bytes-back : (n : ℕ) (xs : List ℕ) → 2 * n ≤ length xs → Bytes xs → allBytes 2 (numbersFrom 2 n xs) ≡ take (2 * n) xs
-bytes-back zero xs h b = refl
-bytes-back (suc n) [] h b = absurd (omega arith)
-bytes-back (suc n) (x ∷ []) h b = absurd (omega arith)
-bytes-back (suc n) (x ∷ y ∷ zs) h b =
-    let v : ℕ = x + 256 * (y + 256 * 0) in
-    let low : v % 256 ≡ x = omega (arith, b 0, b 1) in
-    let rest : v / 256 ≡ y = omega (arith, b 0, b 1) in
-    let same : y % 256 ≡ y = omega (arith, b 1) in
-    let high : v / 256 % 256 ≡ y = ap (λ (n : ℕ). n % 256) rest ∙ same in
-    let more = bytes-back n zs (omega arith) (λ i. b (suc (suc i))) in
-    let size : suc (suc (2 * n)) ≡ 2 * suc n = omega arith in
-    ap₂ (λ (p q : ℕ). p ∷ q ∷ allBytes 2 (numbersFrom 2 n zs)) low high
-    ∙ ap (λ (r : List ℕ). x ∷ y ∷ r) more
-    ∙ ap (λ (k : ℕ). take k (x ∷ y ∷ zs)) size
-
--- The numbers from place k on.
-pub drop-numbers : (k m : ℕ) (xs : List ℕ) → drop k (numbersFrom 2 (k + m) xs) ≡ numbersFrom 2 m (drop (2 * k) xs)
-drop-numbers zero m xs = ap (λ (n : ℕ). numbersFrom 2 n xs) (let e : 0 + m ≡ m = omega arith in e)
-drop-numbers (suc k) m xs =
-    let e : suc k + m ≡ suc (k + m) = omega arith in
-    let d : 2 + 2 * k ≡ 2 * suc k = omega arith in
-    ap (λ (n : ℕ). drop (suc k) (numbersFrom 2 n xs)) e
-    ∙ drop-numbers k m (drop 2 xs)
-    ∙ ap (numbersFrom 2 m) (drop-drop (2 * k) 2 xs ∙ ap (λ (n : ℕ). drop n xs) d)
-
--- New numbers at the front of lent bytes.
-front : (new before : List ℕ) → length new ≤ length before / 2 → Bytes before
-    → allBytes 2 (new ++ drop (length new) (numbersOf 2 before)) ++ drop (2 * length (new ++ drop (length new) (numbersOf 2 before))) before
-    ≡ allBytes 2 new ++ drop (2 * length new) before
-front new before h b =
-    let k : ℕ = length new in
-    let m : ℕ = length before / 2 - k in
-    let ys : List ℕ = drop (2 * k) before in
-    let split : length before / 2 ≡ k + m = omega arith in
-    let later : drop k (numbersOf 2 before) ≡ numbersFrom 2 m ys = ap (λ (n : ℕ). drop k (numbersFrom 2 n before)) split ∙ drop-numbers k m before in
-    let size : length (new ++ numbersFrom 2 m ys) ≡ k + m = length-append new (numbersFrom 2 m ys) ∙ ap (λ (n : ℕ). k + n) (length-numbersFrom 2 m ys) in
-    let twice : 2 * (k + m) ≡ 2 * k + 2 * m = omega arith in
-    let long : 2 * m ≤ length ys = omega (arith, length-drop (2 * k) before) in
-    ap (λ (ns : List ℕ). allBytes 2 (new ++ ns) ++ drop (2 * length (new ++ ns)) before) later
-    ∙ ap₂ (λ (x y : List ℕ). x ++ y)
-    (allBytes-append 2 new (numbersFrom 2 m ys) ∙ ap (λ (r : List ℕ). allBytes 2 new ++ r) (bytes-back m ys long (λ i. rw getD-drop (b (2 * k + i)))))
-    (ap (λ (n : ℕ). drop (2 * n) before) size ∙ ap (λ (n : ℕ). drop n before) twice ∙ sym (drop-drop (2 * m) (2 * k) before))
-    ∙ append-assoc (allBytes 2 new) (take (2 * m) ys) (drop (2 * m) ys)
-    ∙ ap (λ (r : List ℕ). allBytes 2 new ++ r) (take-append-drop (2 * m) ys)
 
 -- ---- judging into lent bytes
 
@@ -81,7 +29,7 @@ unchanged Meets before b n k r why says =
       steps = numbersOf 2 before;
       meets = why;
       replies = says;
-      bytes = sym (front [] before (omega arith) b);
+      bytes = sym (new-front 2 (length before / 2) [] before (omega arith) (omega arith) b);
       kept = λ bad. refl;
     }
 
@@ -122,7 +70,7 @@ module _ (numbers before : List ℕ) (b : Bytes before) (room : 20480 ≤ length
             is
             ∙ ap (λ (n : ℕ). allBytes 2 (take n written) ++ drop (2 * n) before) count
             ∙ ap (λ (ns : List ℕ). allBytes 2 ns ++ drop (2 * length new) before) wrote
-            ∙ sym (front new before (omega (arith, right .room, right .count)) b);
+            ∙ sym (new-front 2 (length before / 2) new before (omega (arith, right .room, right .count)) (omega arith) b);
         kept = λ bad. absurd (bad (says .0));
       }
 

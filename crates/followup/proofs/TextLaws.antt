@@ -21,9 +21,9 @@ use Rattle.followup.specs.Reply.{Replies, JudgeReplies, JudgesNumbers, t
 use Rattle.followup.specs.inner.Numbers.{ReadsNumbers}
 use Rattle.followup.specs.declared.Reply.{Reply}
 use Rattle.followup.specs.declared.JudgeReply.{JudgeReply}
-use Rattle.followup.proofs.ByteLaws.{length-numbersFrom}
+use Rattle.followup.proofs.ByteLaws.{length-numbersFrom, Bytes}
 use Rattle.followup.proofs.LineCounts.{linesIn, with-room}
-use Rattle.followup.proofs.StepBytes.{Bytes, unchanged, judges-as}
+use Rattle.followup.proofs.StepBytes.{unchanged, judges-as}
 
 module _ (text numbers after : List ℕ) (r : Reply) (m : ReadsNumbers text numbers r after) (enough : linesIn text ≤ length numbers / 8) where
   says-all : Replies (counted (textRead text)) r

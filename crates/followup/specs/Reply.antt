@@ -10,13 +10,15 @@ use Rattle.sheet.specs.Line.{Line, lineSize, lentOf}
 use Rattle.sheet.specs.Read.{textLimit, sheetIn, readOf}
 use Rattle.sheet.specs.Write.{writeOf}
 use Rattle.patterns.specs.Pattern.{patternOf}
-use Rattle.chase.specs.Judge.{Verdict, Judgement, judged, refuses, JudgeMeets, stepLimit, shapeLimit}
+use Rattle.chase.specs.Judge.{Judgement, judged, refuses, JudgeMeets, stepLimit, shapeLimit}
+use Rattle.carrying.specs.Contract.{Carried, carried, refuses as refusesToCarry, CarryMeets}
 use Rattle.steps.specs.Showing.{shownAt}
 use Rattle.walker.specs.Walk.{spanStart, lineStart}
 use Rattle.steps.specs.declared.StepRecord.{StepRecord}
 use Rattle.followup.specs.Bytes.{numbersOf, allBytes}
 use Rattle.followup.specs.declared.Reply.{Reply}
 use Rattle.followup.specs.declared.JudgeReply.{JudgeReply}
+use Rattle.followup.specs.declared.CarryReply.{CarryReply}
 use Rattle.followup.specs.declared.StepReply.{StepReply}
 use Rattle.followup.specs.declared.SpanReply.{SpanReply}
 
@@ -91,6 +93,24 @@ TextMeets (refused number line) before j now = (j ≡ cond (ltb (length before) 
 -- Judging a text, for every text and all bytes of lent steps.
 abbrev pub JudgesText : List ℕ → List ℕ → JudgeReply → List ℕ → Type 0
 JudgesText text before r after = Judges (TextMeets (textRead text) (numbersOf 2 before)) before r after
+
+-- Rules carried out have refusal 0 and line 0; a refusal has 0 records and 0 firings.
+abbrev pub CarryReplies : Carried → CarryReply → Type 0
+CarryReplies (carried records firings) r = (r .refusal ≡ 0) × (r .line ≡ 0) × (r .records ≡ records) × (r .firings ≡ firings)
+CarryReplies (refusesToCarry number line) r = (r .refusal ≡ number) × (r .line ≡ line) × (r .records ≡ 0) × (r .firings ≡ 0)
+
+-- Carrying out the rules of lines that are held as numbers, into lent bytes of records: they then hold the numbers of a right answer, and a last part too short for a number is as it was.
+pub record CarriesNumbers (numbers before : List ℕ) (r : CarryReply) (after : List ℕ) : Type 0 where
+  pub answer : Carried
+  pub now : List ℕ
+  pub meets : CarryMeets numbers (numbersOf 4 before) answer now
+  pub replies : CarryReplies answer r
+  pub bytes : after ≡ allBytes 4 now ++ drop (4 * length now) before
+  pub kept : Kept (r .refusal) before after
+
+-- Carrying out, for all bytes of lent lines and of lent records.
+abbrev pub CarriesBytes : List ℕ → List ℕ → CarryReply → List ℕ → Type 0
+CarriesBytes lines before r after = CarriesNumbers (numbersOf 4 lines) before r after
 
 -- Step k of the numbers that the bytes hold, counted from 0; all zeros where there is none.
 abbrev pub stepReply : StepRecord → StepReply

@@ -1,2 +1,3 @@
 -- What inner functions promise each other. No public contract cites this.
 pub mod Numbers
+pub mod First

@@ -1,5 +1,6 @@
 // Entry points for a host in C: text, lent lines and lent steps as bytes, a u32 or u16 as its bytes, lowest first.
 mod bytes;
+mod records;
 
 ghost use mathlib.Core.Path.{_≡_};
 ghost use Prim.Native.Nat.{_*_, _/_, _≤_, min};
@@ -9,12 +10,19 @@ ghost use Rattle.sheet.specs.Read.{readSays};
 ghost use Rattle.sheet.specs.Write.{writeSays};
 ghost use Rattle.chase.specs.Judge.{judged as judgedAs, refuses as refusedAs};
 ghost use Rattle.judging.specs.Answer.{verdictOf, judgeSays};
+ghost use Rattle.carrying.specs.Contract.{carried as carriedAs, refuses as refusesToCarry};
+ghost use Rattle.running.specs.Held.{recordsFit};
+ghost use Rattle.running.specs.Answer.{carryRefusalNumber, carryRefusalLine};
+ghost use Rattle.running.specs.inner.Carry.{Settled};
 ghost use Rattle.steps.specs.Showing.{shownAt};
 ghost use Rattle.followup.specs.Bytes.{numbersOf};
-ghost use Rattle.followup.specs.Reply.{version, Replies, ReadsBytes, WritesBytes, FindsPattern, JudgeReplies, JudgesNumbers, JudgesBytes, JudgesText, ShowsStep, FindsLine};
+ghost use Rattle.followup.specs.Reply.{version, Replies, ReadsBytes, WritesBytes, FindsPattern, JudgeReplies, JudgesNumbers, JudgesBytes, JudgesText, CarryReplies, CarriesNumbers, CarriesBytes, ShowsStep, FindsLine};
 ghost use Rattle.followup.specs.inner.Numbers.{ReadsNumbers};
+ghost use Rattle.followup.specs.inner.First.{FirstSays};
 use judging::Figures;
 use judging::JudgeAnswer;
+use running::CarryRefusal;
+use running::RunAnswer;
 use sheet::PatternAnswer;
 use sheet::ReadAnswer;
 use sheet::Refusal;
@@ -41,6 +49,15 @@ pub struct JudgeReply {
     pub row: usize,
     pub trail: usize,
     pub loop_steps: usize,
+}
+
+// What carrying out answers: refusal 0, how many records there are and how many firings made them; or a refusal with its number and line.
+#[repr(C)]
+pub struct CarryReply {
+    pub refusal: u32,
+    pub line: usize,
+    pub records: usize,
+    pub firings: usize,
 }
 
 // A step: rule, H line within it (1 to 4), from field, to field, fresh (1) or carried (0).
@@ -115,6 +132,13 @@ fn room_for_steps() -> [u16; 20480]
     [0; 20480]
 }
 
+// Room for 4,096 records, as a run holds them: seven numbers each.
+fn room_for_records() -> [u32; 28672]
+    ensures { λ r. ⌜ recordsFit r ⌝ }
+{
+    [0; 28672]
+}
+
 fn least(a: usize, b: usize) -> usize
     ensures { λ r. ⌜ r ≡ min a b ⌝ }
 {
@@ -131,7 +155,7 @@ fn count_of(bytes: usize, most: usize) -> usize
 // Decodes the lines, one more than a sheet can have at most, and counts their numbers.
 fn decode_lines(lines: &[u8], numbers: &mut [u32]) -> usize
     requires { ⌜ min (length (now lines) / 4) 18952 ≤ length (now numbers) ⌝ }
-    ensures { λ r. ⌜ (r ≤ length (now (numbers .entry))) × (take r (now (numbers .exit)) ≡ take 18952 (numbersOf 4 (now (lines .entry)))) ⌝ }
+    ensures { λ r. ⌜ (r ≤ length (now (numbers .entry))) × (take r (now (numbers .exit)) ≡ take 18952 (numbersOf 4 (now (lines .entry)))) × (r ≡ min (length (now (lines .entry)) / 4) 18952) ⌝ }
 {
     let count = count_of(lines.len(), 18952);
     bytes::decode(lines, numbers, count);
@@ -274,6 +298,74 @@ fn judge_long_text(text: &[u8], steps: &mut [u8]) -> JudgeReply
     judge_read(text, &mut many, steps)
 }
 
+// 24,576 places: for the steps of judging, then for looking records up.
+fn room_for_places() -> [u16; 24576]
+    ensures { λ r. ⌜ length r ≡ 24576 ⌝ }
+{
+    [0; 24576]
+}
+
+fn carried(records: usize, firings: usize) -> CarryReply
+    ensures { λ r. ⌜ CarryReplies (carriedAs records firings) r ⌝ }
+{
+    CarryReply {
+        refusal: 0,
+        line: 0,
+        records,
+        firings,
+    }
+}
+
+fn not_carried(refusal: u32, line: usize) -> CarryReply
+    ensures { λ r. ⌜ CarryReplies (refusesToCarry refusal line) r ⌝ }
+{
+    CarryReply {
+        refusal,
+        line,
+        records: 0,
+        firings: 0,
+    }
+}
+
+// A refusal of carrying out, as a reply.
+fn carry_refuses(refusal: CarryRefusal) -> CarryReply
+    ensures { λ r. ⌜ CarryReplies (refusesToCarry (carryRefusalNumber refusal) (carryRefusalLine refusal)) r ⌝ }
+{
+    let said = running::refusal_numbers(refusal);
+    not_carried(said.number as u32, said.line)
+}
+
+// Decodes lines and judges them first: refusal 0 where they settle. A function of its own, since the run needs the stack that judging needs.
+fn judge_first(lines: &[u8], numbers: &mut [u32], places: &mut [u16]) -> CarryReply
+    requires { ⌜ (min (length (now lines) / 4) 18952 ≤ length (now numbers)) × (length (now places) ≡ 24576) ⌝ }
+    ensures { λ r. ⌜ FirstSays (now (lines .entry)) r (now (numbers .exit)) ⌝ }
+{
+    let count = decode_lines(lines, numbers);
+    match judging::judge(&numbers[..count], places) {
+        JudgeAnswer::Settles(_) => carried(0, 0),
+        JudgeAnswer::Endless(_) => carry_refuses(CarryRefusal::Endless),
+        JudgeAnswer::Refused(refusal) => carry_refuses(running::judge_refused(refusal)),
+    }
+}
+
+// Carries the rules of a sheet out that settles, and puts the records into the lent bytes when the answer is sure.
+fn carry_settled(numbers: &[u32], places: &mut [u16], records: &mut [u8]) -> CarryReply
+    requires { ⌜ Settled (now numbers) (numbersOf 4 (now records)) × (length (now places) ≡ 24576) ⌝ }
+    ensures { λ r. ⌜ CarriesNumbers (now (numbers .entry)) (now (records .entry)) r (now (records .exit)) ⌝ }
+{
+    let mut rows = room_for_records();
+    match running::run(numbers, &mut rows, places) {
+        RunAnswer::Ended(totals) => {
+            records::encode_records(&rows, totals.records, records);
+            carried(totals.records, totals.firings)
+        }
+        RunAnswer::RecordsOver => carry_refuses(CarryRefusal::RecordsOver),
+        RunAnswer::NumberOver => carry_refuses(CarryRefusal::NumberOver),
+        RunAnswer::LineWrong(line) => carry_refuses(CarryRefusal::LineWrong(line)),
+        RunAnswer::RoomWrong => carry_refuses(CarryRefusal::RecordsShort),
+    }
+}
+
 // The numbers of step k, counted from 0; five zeros where the bytes hold none.
 fn step_numbers(steps: &[u8], k: usize) -> [u16; 5]
     ensures { λ r. ⌜ (length r ≡ 5) × (shownAt r 0 ≡ shownAt (numbersOf 2 (now (steps .entry))) k) ⌝ }
@@ -362,6 +454,32 @@ pub extern "C" fn followup_judge_text_v1(text: &[u8], steps: &mut [u8]) -> Judge
     }
     let mut few = room_for_few_lines();
     judge_read(text, &mut few, steps)
+}
+
+// Carries the rules of lent lines out, 32 bytes each. Room for at least 4,096 records, 32 bytes each, is lent. A good call puts the records there as R lines and changes nothing after them; a refusal changes nothing.
+#[no_mangle]
+pub extern "C" fn followup_carry_v1(lines: &[u8], records: &mut [u8]) -> CarryReply
+    ensures { λ r. ⌜ CarriesBytes (now (lines .entry)) (now (records .entry)) r (now (records .exit)) ⌝ }
+{
+    if records.len() / 4 < 32768 {
+        return not_carried(12, 0);
+    }
+    let held = count_of(lines.len(), 18952);
+    let mut places = room_for_places();
+    if held > 2048 {
+        let mut many = room_for_lines();
+        let first = judge_first(lines, &mut many, &mut places);
+        if first.refusal == 0 {
+            return carry_settled(&many[..held], &mut places, records);
+        }
+        return first;
+    }
+    let mut few = room_for_few_lines();
+    let first = judge_first(lines, &mut few, &mut places);
+    if first.refusal == 0 {
+        return carry_settled(&few[..held], &mut places, records);
+    }
+    first
 }
 
 // Step k of lent steps, counted from 0; all zeros where they hold none.

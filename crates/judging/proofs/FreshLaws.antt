@@ -7,7 +7,7 @@ use native.Mathlib.Decide.{ℕ-discrete}
 use native.Mathlib.Omega.{arith}
 use lib.ListN.{length, getD, set, length-set}
 use lib.Seq.{getD-set-same, getD-set-other}
-use Rattle.judging.specs.inner.Table.{rowBytes, TableFits}
+use Rattle.rules.specs.Table.{rowBytes, TableFits}
 use Rattle.judging.specs.inner.Firing.{kindByte}
 use Rattle.judging.specs.inner.Nodes.{Zeros}
 use Rattle.judging.specs.inner.Passes.{Rests, FieldLink, carriedLink, freshLink, EachLink}

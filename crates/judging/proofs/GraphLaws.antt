@@ -12,15 +12,16 @@ use Rattle.chase.specs.Simplification.{Applies}
 use Rattle.chase.proofs.CountLaws.{element-below}
 use Rattle.chase.proofs.CodedLaws.{markAt, mark-below}
 use Rattle.chase.proofs.StepLaws.{element-in}
-use Rattle.judging.specs.inner.Table.{rowBytes, ruleIn, tableRules, TableFits}
+use Rattle.rules.specs.Table.{rowBytes, ruleIn, tableRules, TableFits}
 use Rattle.judging.specs.inner.Codes.{shapeAt, codeOf, shapeFrom}
 use Rattle.judging.specs.inner.Found.{shapeNo}
 use Rattle.judging.specs.inner.Links.{Begins, carried, new, Link, Closed}
 use Rattle.judging.specs.inner.Passes.{FieldLink, carriedLink, freshLink, ShapeLink, EachLink, Onward, placeOf}
 use Rattle.judging.proofs.CodeLaws.{code-of-shape, shape-of-code, shapeFrom-fits}
-use Rattle.judging.proofs.RuleLaws.{table-rule, table-count, headAt, head-nth, head-count, head-fits, row-fits}
+use Rattle.rules.proofs.TableLaws.{table-rule, table-count}
+use Rattle.judging.proofs.RuleLaws.{headAt, head-nth, head-count, head-fits, row-fits}
 use Rattle.judging.proofs.LinkLaws.{link-of, width-is, width-few, mark-there, place-is, place-few}
-use Rattle.judging.proofs.Sources.{bodyPlace, placed-stands, stands-placed, not-placed}
+use Rattle.rules.proofs.Sources.{bodyPlace, placed-stands, stands-placed, not-placed}
 use Rattle.judging.proofs.EndLaws.{Sane}
 
 module _ {table : List ℕ} {rules : ℕ} (tf : TableFits table rules) where

@@ -8,10 +8,10 @@ use native.Mathlib.Decide.{ℕ-discrete, decLt}
 use native.Mathlib.Omega.{arith}
 use lib.ListN.{length, getD, set}
 use Rattle.chase.specs.Simplification.{Applies}
-use Rattle.judging.specs.inner.Table.{ruleIn, rowBytes, TableFits}
+use Rattle.rules.specs.Table.{ruleIn, rowBytes, TableFits}
 use Rattle.judging.specs.inner.Codes.{shapeAt, FiresOn}
 use Rattle.judging.specs.inner.Firing.{kindByte, NextOf, ByKind, Place, NextFire}
-use Rattle.judging.proofs.PartLaws.{set-two, set-first, set-second, length-two}
+use Rattle.rules.proofs.PartLaws.{set-two, set-first, set-second, length-two}
 use Rattle.judging.proofs.RuleLaws.{rule-kind, row-fits, other-kind}
 
 pub kind-low : {table : List ℕ} {rules : ℕ} → TableFits table rules → (r : ℕ) → r < rules → kindByte table r ≤ 64

@@ -1,10 +1,10 @@
 -- The laws that the proofs of this crate rest on.
 pub mod BackLaws
-pub mod ByteLaws
 pub mod CodeLaws
 pub mod Counts
 pub mod EndLaws
 pub mod FactLaws
+pub mod FirstPlaces
 pub mod FoundLaws
 pub mod FreshLaws
 pub mod GraphLaws
@@ -16,7 +16,6 @@ pub mod ListOf
 pub mod NodeLaws
 pub mod NoteLaws
 pub mod OrderLaws
-pub mod PartLaws
 pub mod PassLaws
 pub mod PigeonLaws
 pub mod Places
@@ -24,10 +23,7 @@ pub mod RoundLaws
 pub mod RowLaws
 pub mod RuleLaws
 pub mod SearchLaws
-pub mod SheetLaws
-pub mod Sources
 pub mod SweepLaws
-pub mod TableLaws
 pub mod TrailLaws
 pub mod Verdicts
 pub mod WalkLaws

@@ -8,7 +8,7 @@ use lib.ListN.{length, getD}
 use Rattle.chase.specs.Rules.{Head, Rule, nth}
 use Rattle.chase.specs.Simplification.{Applies}
 use Rattle.chase.proofs.CodedLaws.{markAt}
-use Rattle.judging.specs.inner.Table.{ruleIn, BytesFit}
+use Rattle.rules.specs.Table.{ruleIn, BytesFit}
 use Rattle.judging.specs.inner.Codes.{shapeFrom}
 use Rattle.judging.specs.inner.Found.{shapeNo}
 use Rattle.judging.specs.inner.Links.{Begins, Link}
@@ -16,7 +16,7 @@ use Rattle.judging.specs.inner.Passes.{LineBytes, Done, Just, Upto, Fres
 use Rattle.judging.specs.declared.spread.Raised.{Raised}
 use Rattle.judging.proofs.Places.{element-at}
 use Rattle.judging.proofs.RuleLaws.{headAt, lineMarks, head-below, head-width, head-mark, head-fits, mark-range}
-use Rattle.judging.proofs.Sources.{bodyPlace, place-within}
+use Rattle.rules.proofs.Sources.{bodyPlace, place-within}
 use Rattle.judging.proofs.PassLaws.{alike}
 
 -- A link, where a rule and an H line of it make the shape at place t of that at place s.

@@ -15,13 +15,14 @@ use Rattle.chase.specs.Certificate.{asRecord, shapeAfter}
 use Rattle.chase.proofs.ListLaws.{all-in}
 use Rattle.chase.proofs.CodedLaws.{carried-in, bodyWidth, codeAt, markAt, headWidth, mark-below, applies-wide, stands-code, carried-code, carried-coded, fresh-coded, alone-coded, after-coded, applies-as-record}
 use Rattle.chase.proofs.StepLaws.{nth-in}
-use Rattle.judging.specs.inner.Table.{HeadFits, RuleFits}
+use Rattle.rules.specs.Table.{HeadFits, RuleFits}
 use Rattle.judging.specs.inner.Codes.{ShapeFits}
 use Rattle.judging.specs.inner.Found.{shapeNo}
 use Rattle.judging.specs.inner.Links.{Link, Begins, carried, new}
 use Rattle.judging.specs.inner.Written.{linkStep}
 use Rattle.judging.proofs.Places.{nth-below}
-use Rattle.judging.proofs.Sources.{bodyPlace, place-within, stands-placed, code-there, Source, nothing, first, source-is}
+use Rattle.rules.proofs.Sources.{bodyPlace, place-within, stands-placed, Source, nothing, first, source-is}
+use Rattle.judging.proofs.FirstPlaces.{code-there}
 
 module _ (rules : List Rule) (codes : List ℕ) (count : ℕ) (fit : All RuleFits rules) (fits : (k : ℕ) → k < count → ShapeFits (shapeNo codes k))
     (u v code : ℕ) (l : Link rules codes count u v code) where

@@ -16,14 +16,15 @@ use Rattle.chase.proofs.ListLaws.{in-map, map-in, all-in}
 use Rattle.chase.proofs.CodedLaws.{carriedValues-in, InBody, bodyWidth, codeAt, markAt, codesMade, mark-below, applies-wide, made-width, made-each, own-record, as-record-applies, shapeMade-digits}
 use Rattle.chase.proofs.StepLaws.{nth-in}
 use Rattle.chase.proofs.BoundLaws.{largest-deepest}
-use Rattle.judging.specs.inner.Table.{RuleFits}
+use Rattle.rules.specs.Table.{RuleFits}
 use Rattle.judging.specs.inner.Codes.{ShapeFits, shapeFrom}
 use Rattle.judging.specs.inner.Found.{shapeNo, Kept, Whole}
 use Rattle.judging.specs.inner.Nodes.{at, weight, Stable}
 use Rattle.judging.specs.inner.Links.{Link, Begins, carried, new}
 use Rattle.judging.proofs.Places.{below, below-in, in-below, nth-below, in-nth}
 use Rattle.judging.proofs.LinkLaws.{link-of}
-use Rattle.judging.proofs.Sources.{bodyPlace, place-within, code-there, no-source, carried-source}
+use Rattle.rules.proofs.Sources.{bodyPlace, place-within, no-source, carried-source}
+use Rattle.judging.proofs.FirstPlaces.{code-there}
 
 -- The numbers of n nodes, from node a on.
 abbrev pub numbersFrom : (ℕ → ℕ) → ℕ → ℕ → List ℕ

@@ -11,7 +11,7 @@ use lib.Seq.{getD-set-same, getD-set-other, getD-take, getD-drop, length-take-le
 use Rattle.chase.specs.Rules.{Rule, nth}
 use Rattle.chase.specs.Making.{Record}
 use Rattle.chase.specs.Simplification.{Applies}
-use Rattle.judging.specs.inner.Table.{rowBytes, ruleIn, TableFits}
+use Rattle.rules.specs.Table.{rowBytes, ruleIn, TableFits}
 use Rattle.judging.specs.inner.Codes.{shapeAt, codeOf, shapeFrom, MadeOf}
 use Rattle.judging.specs.inner.Passes.{Done, HeadLink, MadeLink, ShapeLink, Onward}
 use Rattle.judging.specs.inner.Noted.{WrittenAt, NoteIs, Notes, ShapeNotes, Noted, ruleOf, lineOf, targetAt, NoteFits, NoteLink, NotesLink}

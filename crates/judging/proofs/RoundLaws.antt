@@ -7,7 +7,7 @@ use Prim.Native.Nat.{ℕ, _+_, _*_, _/_, _≤_, _<_}
 use native.Mathlib.Omega.{arith}
 use native.Mathlib.Decide.{ℕ-discrete}
 use lib.ListN.{length}
-use Rattle.judging.specs.inner.Table.{tableRules, TableFits}
+use Rattle.rules.specs.Table.{tableRules, TableFits}
 use Rattle.judging.specs.inner.Nodes.{at, fromOf, linkOf, Zeros, back, weight, Stable, Turn}
 use Rattle.judging.specs.inner.Links.{Link, Closed, Spreads, turningNumber, hasTurn}
 use Rattle.judging.specs.declared.spread.Turning.{Turning}

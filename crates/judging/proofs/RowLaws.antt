@@ -26,11 +26,11 @@ use Rattle.chase.specs.Simplification.{Derived}
 use Rattle.chase.proofs.ShapeLaws.{pattern-map}
 use Rattle.chase.proofs.StepLaws.{nth-map}
 use Rattle.judging.specs.inner.Codes.{shapeAt, ShapeFits, CodeIs}
-use Rattle.judging.specs.inner.Table.{SheetHeld, linesIn, rowsIn, KindFits}
+use Rattle.rules.specs.Table.{SheetHeld, linesIn, rowsIn, KindFits}
 use Rattle.judging.specs.inner.Found.{Has, viaRow}
 use Rattle.judging.specs.inner.Rows.{Clear, rowNumbers, RowAt, RowsFound}
 use Rattle.judging.proofs.CodeLaws.{pattern-fits}
-use Rattle.judging.proofs.SheetLaws.{lineNo, linesBefore, before-next, LentLine, lent-line, held-lines, size-held, rows-few}
+use Rattle.rules.proofs.SheetLaws.{lineNo, linesBefore, before-next, LentLine, lent-line, held-lines, size-held, rows-few}
 use Rattle.judging.proofs.Places.{nth-below}
 use Rattle.judging.proofs.FoundLaws.{zeros, zero-at, new-shape, has-more, has-last, room-of, marked-has, kept-push, more-than, derived-row}
 

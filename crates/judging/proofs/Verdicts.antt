@@ -20,7 +20,7 @@ use Rattle.chase.specs.Judge.{Verdict, judged, refuses, SettlesAtOnce, Settles,
 use Rattle.chase.proofs.BoundLaws.{rows-of-tables}
 use Rattle.chase.proofs.StepLaws.{length-numbers, numbers-append}
 use Rattle.chase.proofs.CertificateLaws.{settled-certificate, settled-at-once, endless-certificate}
-use Rattle.judging.specs.inner.Table.{linesIn, SheetHeld}
+use Rattle.rules.specs.Table.{linesIn, SheetHeld}
 use Rattle.judging.specs.inner.Found.{onesIn, makerAt}
 use Rattle.judging.specs.inner.Nodes.{at, back}
 use Rattle.judging.specs.inner.Written.{lineTo, wayBack, wayTo, WayLength, putSteps, Deepest, TurnLength, LineLength}

@@ -12,7 +12,7 @@ use Rattle.chase.specs.Shape.{Shape}
 use Rattle.chase.specs.Counting.{NoTwo}
 use Rattle.chase.specs.Steps.{Step, Moves, Follow, lastTo, lastFresh, Place}
 use Rattle.chase.specs.Certificate.{shapeAfter, EachShape, lastShape, placesOn, LoopOn, freshSteps}
-use Rattle.judging.specs.inner.Table.{RuleFits}
+use Rattle.rules.specs.Table.{RuleFits}
 use Rattle.judging.specs.inner.Codes.{ShapeFits}
 use Rattle.judging.specs.inner.Found.{shapeNo}
 use Rattle.judging.specs.inner.Nodes.{back, weight, freshBack, Stable, Turn}

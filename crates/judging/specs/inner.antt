@@ -1,8 +1,6 @@
 -- What inner functions promise each other. No public contract cites this.
-pub mod Table
 pub mod Codes
 pub mod Firing
-pub mod Bytes
 pub mod Rows
 pub mod Found
 pub mod Nodes

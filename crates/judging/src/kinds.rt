@@ -2,7 +2,7 @@
 //   k        the first rule of kind k
 //   65 + r   the first rule after rule r that has its kind
 // Where there is none, and in places that are not used, the number of rules.
-ghost use Rattle.judging.specs.inner.Table.{TableFits};
+ghost use Rattle.rules.specs.Table.{TableFits};
 ghost use Rattle.judging.specs.inner.Firing.{ByKind};
 use crate::shape::rule_byte;
 

@@ -8,7 +8,6 @@ mod order;
 mod search;
 mod shape;
 mod spread;
-mod table;
 mod trail;
 mod wide;
 
@@ -17,10 +16,9 @@ ghost use Prim.Native.Nat.{_≤_};
 ghost use lib.ListN.{length};
 ghost use Rattle.chase.specs.Judge.{JudgeMeets, shapeLimit};
 ghost use Rattle.judging.specs.Answer.{judgeSays, judgeRefusalNumber, judgeRefusalLine};
-ghost use Rattle.judging.specs.inner.Table.{SheetHeld, FirstWrong, rulesIn, tableRules, TableFits};
+ghost use Rattle.rules.specs.Table.{SheetHeld, rulesIn, tableRules, TableFits};
 use notes::Note;
-use sheet::Refusal;
-use sheet::WriteAnswer;
+use rules::RulesAnswer;
 use spread::Turning;
 
 // Why judging is refused.
@@ -63,11 +61,12 @@ pub fn judge(lines: &[u32], steps: &mut [u16]) -> JudgeAnswer
     if steps.len() < 20480 {
         return JudgeAnswer::Refused(JudgeRefusal::StepsShort);
     }
-    let wrong = first_wrong(lines);
-    if wrong != 0 {
-        return JudgeAnswer::Refused(JudgeRefusal::LineWrong(wrong));
+    let mut table = [0u8; 16384];
+    match rules::rules_of(lines, &mut table) {
+        RulesAnswer::Rules(count) => judge_sheet(lines, steps, &table, count),
+        RulesAnswer::LineWrong(line) => JudgeAnswer::Refused(JudgeRefusal::LineWrong(line)),
+        RulesAnswer::TableShort => JudgeAnswer::Refused(JudgeRefusal::StepsShort),
     }
-    judge_sheet(lines, steps)
 }
 
 // The number and the line of a refusal.
@@ -87,31 +86,15 @@ pub fn refusal_numbers(refusal: JudgeRefusal) -> JudgeRefusalNumbers
     }
 }
 
-// The first wrong line; 0 where the lent lines are a sheet. Write tests them before it looks at the lent text.
-fn first_wrong(lines: &[u32]) -> usize
-    ensures { λ r. ⌜ FirstWrong (now (lines .entry)) r ⌝ }
-{
-    let mut text = [0u8; 1];
-    match sheet::write(lines, &mut text) {
-        WriteAnswer::Bytes(_) => 0,
-        WriteAnswer::Refused(refusal) => match refusal {
-            Refusal::LineWrong(line) => line,
-            _ => 0,
-        },
-    }
-}
-
-// Judges lent lines that are a sheet.
-fn judge_sheet(lines: &[u32], steps: &mut [u16]) -> JudgeAnswer
-    requires { ⌜ SheetHeld (now lines) × (20480 ≤ length (now steps)) ⌝ }
+// Judges lent lines that are a sheet, by the table of their rules.
+fn judge_sheet(lines: &[u32], steps: &mut [u16], table: &[u8; 16384], rules: usize) -> JudgeAnswer
+    requires { ⌜ SheetHeld (now lines) × (20480 ≤ length (now steps)) × TableFits (now table) rules × (tableRules (now table) rules ≡ rulesIn (now lines)) ⌝ }
     ensures { λ r. ⌜ JudgeMeets shapeLimit (now (lines .entry)) (now (steps .entry)) (judgeSays r) (now (steps .exit)) ⌝ }
 {
-    let mut table = table::no_rules();
-    let rules = table::rules_of(lines, &mut table);
     if lines.len() > 2048 {
-        return judge_many_lines(lines, steps, &table, rules);
+        return judge_many_lines(lines, steps, table, rules);
     }
-    judge_few_lines(lines, steps, &table, rules)
+    judge_few_lines(lines, steps, table, rules)
 }
 
 // Judges a sheet of up to 256 lines, with room for 2,048 notes: to clear less for a small sheet.

@@ -3,7 +3,7 @@ ghost use mathlib.Core.Path.{_≡_};
 ghost use mathlib.Core.List.{[], _∷_};
 ghost use Prim.Native.Nat.{_+_, _-_, _*_, _≤_, _<_};
 ghost use lib.ListN.{length};
-ghost use Rattle.judging.specs.inner.Table.{TableFits};
+ghost use Rattle.rules.specs.Table.{TableFits};
 ghost use Rattle.judging.specs.inner.Codes.{shapeAt, ShapeFits};
 ghost use Rattle.judging.specs.inner.Firing.{ByKind};
 ghost use Rattle.judging.specs.inner.Noted.{WrittenAt, ShapeNotes};

@@ -6,7 +6,7 @@ ghost use mathlib.Core.List.{[], _∷_};
 ghost use Prim.Native.Nat.{_+_, _*_, _≤_, _<_};
 ghost use lib.ListN.{length, getD, set};
 ghost use Rattle.patterns.specs.Pattern.{pattern};
-ghost use Rattle.judging.specs.inner.Table.{SheetHeld, rulesIn, rowsIn, tableRules, KindFits, TableFits};
+ghost use Rattle.rules.specs.Table.{SheetHeld, rulesIn, rowsIn, tableRules, KindFits, TableFits};
 ghost use Rattle.judging.specs.inner.Codes.{CodeIs};
 ghost use Rattle.judging.specs.inner.Firing.{ByKind};
 ghost use Rattle.judging.specs.inner.Found.{Searched};

@@ -4,7 +4,7 @@ ghost use native.Mathlib.Decide.{ℕ-discrete};
 ghost use Prim.Native.Nat.{_+_, _-_, _*_, _≤_, _<_};
 ghost use lib.ListN.{length, getD};
 ghost use Rattle.patterns.specs.Pattern.{pattern};
-ghost use Rattle.judging.specs.inner.Table.{KindFits, TableFits, rowBytes, ruleIn};
+ghost use Rattle.rules.specs.Table.{KindFits, TableFits, rowBytes, ruleIn};
 ghost use Rattle.judging.specs.inner.Codes.{CodeIs, FiresOn, MadeOf, DigitsFit, madeNumber};
 ghost use Rattle.judging.specs.inner.Firing.{ByKind, Place, NextFire};
 use crate::wide;

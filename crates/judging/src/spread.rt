@@ -7,7 +7,7 @@ ghost use mathlib.Core.Path.{_≡_};
 ghost use mathlib.Core.List.{[]};
 ghost use Prim.Native.Nat.{ℕ, _+_, _*_, _≤_, _<_};
 ghost use lib.ListN.{length, getD};
-ghost use Rattle.judging.specs.inner.Table.{tableRules, rowBytes};
+ghost use Rattle.rules.specs.Table.{tableRules, rowBytes};
 ghost use Rattle.judging.specs.inner.Nodes.{Grid, Zeros, fromOf, linkOf};
 ghost use Rattle.judging.specs.inner.Links.{Spreads, turningNumber, hasTurn};
 ghost use Rattle.judging.specs.inner.Noted.{NoteFits, NoteLink, NotesLink};

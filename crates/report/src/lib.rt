@@ -35,7 +35,7 @@ pub enum ReportAnswer {
 }
 
 // Room for as many lines as the longest text can have: 1,638.
-fn room_for_lines() -> [u32; 13104]
+pub fn room_for_lines() -> [u32; 13104]
     ensures { λ r. ⌜ length r ≡ 13104 ⌝ }
 {
     [0; 13104]

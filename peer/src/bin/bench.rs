@@ -1,13 +1,15 @@
 //! Times the proved library against the peer on the same inputs in one run, reading
-//! and judging apart, and prints a table; then judging as shapes and rules grow.
+//! and judging apart, and prints a table; then carrying out, with rows and rules in three
+//! orders; then judging as shapes and rules grow.
 //!
-//!     bench [--svg FILE] [--quick]
+//!     bench [--svg FILE] [--quick] [--carrying]
 //!
-//! `--svg` also draws the times by the number of rules and of shapes.
+//! `--svg` also draws the times by the number of rules and of shapes. `--carrying` prints the
+//! table of carrying out alone.
 
 #[path = "bench/chart.rs"]
 mod chart;
-#[allow(dead_code)] // reading and judging only
+#[allow(dead_code)] // reading, judging and carrying out only
 #[path = "../library.rs"]
 mod library;
 #[path = "bench/timing.rs"]
@@ -15,10 +17,11 @@ mod timing;
 
 use chart::{drawn, Panel, Style};
 use peer::random::series::{self, End, Order};
-use peer::random::Random;
+use peer::random::sheets::Sheet;
+use peer::random::{carrying_series, Random};
 use std::process::ExitCode;
 use std::{env, fs};
-use timing::{growing_times, judge_times, read_times, Effort, Ready, Times};
+use timing::{carry_times, growing_times, judge_times, read_times, Effort, Ready, Times};
 
 const SEED: u64 = 7;
 
@@ -50,6 +53,37 @@ fn cells(times: Times) -> String {
 }
 
 const ORDERS: [Order; 3] = [Order::Along, Order::Shuffled, Order::Against];
+
+/// Carrying out, with the rows and rules of each sheet in each order.
+fn print_carrying(effort: &Effort) {
+    println!("\nCarrying out: microseconds a sheet, rows and rules in order, shuffled, reversed;");
+    println!("records and firings: of all sheets of a family.\n");
+    println!(
+        "| sheets | records | firings | library | peer | ratio | shuffled: library | peer | ratio \
+         | reversed: library | peer | ratio |"
+    );
+    println!("|---|---:|---:|---:|---:|---:|---:|---:|---:|---:|---:|---:|");
+    let mut random = Random::new(SEED);
+    for family in carrying_series::families(&mut random) {
+        let times = ORDERS.map(|order| {
+            let sheets = family.sheets.iter().cloned();
+            let ordered = sheets.map(|sheet| carrying_series::in_order(&mut random, sheet, order));
+            let ready: Vec<Ready> = ordered.map(|sheet| Ready::new(&sheet)).collect();
+            cells(carry_times(effort, &ready))
+        });
+        let counts = run_counts(&family.sheets);
+        println!("| {} | {counts} | {} |", family.name, times.join(" | "));
+    }
+}
+
+/// How many records and firings there are in all.
+fn run_counts(sheets: &[Sheet]) -> String {
+    let runs = sheets.iter().filter_map(|sheet| Ready::new(sheet).run());
+    let runs: Vec<peer::Run> = runs.collect();
+    let records: usize = runs.iter().map(|run| run.records.len()).sum();
+    let firings: usize = runs.iter().map(|run| run.firings).sum();
+    format!("{records} | {firings}")
+}
 
 /// Judging of layers that grow in shapes or in rules, with their rows in each order.
 struct Growth {
@@ -228,7 +262,12 @@ fn main() -> ExitCode {
         repetitions: if quick { 5 } else { 25 },
         least: if quick { 500.0 } else { 3_000.0 },
     };
+    if words.iter().any(|word| word == "--carrying") {
+        print_carrying(&effort);
+        return ExitCode::SUCCESS;
+    }
     print_families(&effort);
+    print_carrying(&effort);
     let growths = growths(&effort);
     growths.iter().for_each(print_growth);
     let file = words

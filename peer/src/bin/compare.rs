@@ -3,15 +3,16 @@
 //!
 //!     compare [--seed N] [--count N] [--only N] [--progress] [--statistics]
 //!
-//! `--only` takes one input of a run, by its number. Exit status 1 on a difference,
-//! whose input is then written to a file.
+//! `--only` takes one input of a run, by its number; without it, sheets at the limits of
+//! carrying out come first. Exit status 1 on a difference, whose input is then written to
+//! a file.
 
 #[path = "../library.rs"]
 mod library;
 
-use library::{JudgeReply, Reply, Span, Step};
-use peer::random::{bytes_of, Input, Random};
-use peer::{Refusal, Verdict};
+use library::{CarryReply, JudgeReply, Reply, Span, Step};
+use peer::random::{bytes_of, carrying, Input, Random};
+use peer::{Refusal, Run, Verdict};
 use std::panic::{catch_unwind, AssertUnwindSafe};
 use std::process::ExitCode;
 use std::time::Instant;
@@ -19,6 +20,9 @@ use std::{env, fmt, fs};
 
 /// Records up to which a sheet is chased.
 const CHASE: usize = 1_500;
+
+/// The most records of a run.
+const MOST_RECORDS: usize = 4_096;
 
 /// No text has more lines.
 const MOST_LINES: usize = 1_638;
@@ -105,6 +109,10 @@ struct Tally {
     written: [usize; 13],
     patterns: [usize; 13],
     judged: [usize; 13],
+    carried: [usize; 24],
+    records: usize,
+    firings: usize,
+    full: usize,
     endless: usize,
     chased: usize,
     figures: Vec<Figures>,
@@ -185,6 +193,42 @@ fn compare_judge(random: &mut Random, input: &Input, tally: &mut Tally) -> Resul
     tally.judged[library.refusal as usize] += 1;
     let steps = lent.part()[..counted].to_vec();
     lent.holds(&steps).map_err(|e| format!("judge: {e}"))
+}
+
+/// Carries out by both; the records are also held to what is said of every run.
+fn compare_carry(random: &mut Random, input: &Input, tally: &mut Tally) -> Result<(), String> {
+    let mut lent = Lent::new(random, input.lent_records);
+    let library = library::carry(&input.lines, lent.part());
+    let numbers = numbers_of(&input.lines);
+    let peer = peer::carry(&numbers, input.lent_records / 4);
+    same("carry", library, carry_reply(&peer))?;
+    tally.carried[library.refusal as usize] += 1;
+    let bytes = match &peer {
+        Err(_) => Vec::new(),
+        Ok(run) => bytes_of(run.records.as_flattened()),
+    };
+    lent.holds(&bytes).map_err(|e| format!("carry: {e}"))?;
+    let Ok(run) = peer else {
+        return Ok(());
+    };
+    tally.records += run.records.len();
+    tally.firings += run.firings;
+    tally.full += usize::from(run.records.len() == MOST_RECORDS);
+    peer::verify_run(&numbers, &run).map_err(|e| format!("carry: not so: {e}"))
+}
+
+fn carry_reply(peer: &Result<Run, Refusal>) -> CarryReply {
+    let (refusal, line) = match peer {
+        Err(refusal) => (refusal.number, refusal.line),
+        Ok(_) => (0, 0),
+    };
+    let of = |count: fn(&Run) -> usize| peer.as_ref().map_or(0, count);
+    CarryReply {
+        refusal,
+        line,
+        records: of(|run| run.records.len()),
+        firings: of(|run| run.firings),
+    }
 }
 
 /// From the text to the verdict. The steps are looked at as records.
@@ -312,6 +356,7 @@ fn compare(random: &mut Random, input: &Input, tally: &mut Tally) -> Result<(), 
     tally.written[refusal as usize] += 1;
     compare_pattern(input, tally)?;
     compare_judge(random, input, tally)?;
+    compare_carry(random, input, tally)?;
     compare_text(random, input)?;
     compare_lines(input)
 }
@@ -372,7 +417,7 @@ impl Tally {
 }
 
 /// "9000 good, 1: 20, 2: 300": how many were good and how many were refused, by number.
-fn counts(of: &[usize; 13]) -> String {
+fn counts(of: &[usize]) -> String {
     let refused = of
         .iter()
         .enumerate()
@@ -388,7 +433,8 @@ impl fmt::Display for Tally {
     fn fmt(&self, f: &mut fmt::Formatter) -> fmt::Result {
         write!(
             f,
-            "read {}; write {}; pattern {}; judge {}; {} settle, {} endless, {} chased to the end",
+            "read {}; write {}; pattern {}; judge {}; {} settle, {} endless, {} chased to the end; \
+             carry {}; {} records by {} firings, {} times exactly 4,096 records",
             counts(&self.read),
             counts(&self.written),
             counts(&self.patterns),
@@ -396,6 +442,10 @@ impl fmt::Display for Tally {
             self.judged[0] - self.endless,
             self.endless,
             self.chased,
+            counts(&self.carried),
+            self.records,
+            self.firings,
+            self.full,
         )
     }
 }
@@ -404,6 +454,7 @@ struct Options {
     seed: u64,
     from: u64,
     count: u64,
+    only: bool,
     progress: bool,
     statistics: bool,
 }
@@ -413,6 +464,7 @@ fn options() -> Result<Options, String> {
         seed: 1,
         from: 0,
         count: 20_000,
+        only: false,
         progress: false,
         statistics: false,
     };
@@ -425,7 +477,7 @@ fn options() -> Result<Options, String> {
         match word.as_str() {
             "--seed" => options.seed = number()?,
             "--count" => options.count = number()?,
-            "--only" => (options.from, options.count) = (number()?, 1),
+            "--only" => (options.from, options.count, options.only) = (number()?, 1, true),
             "--progress" => options.progress = true,
             "--statistics" => options.statistics = true,
             _ => return Err(format!("unknown: {word}")),
@@ -434,22 +486,54 @@ fn options() -> Result<Options, String> {
     Ok(options)
 }
 
-/// Compares one input of a run; on a difference, says which and writes the input to a file.
+/// Compares one input of a run.
 fn run(seed: u64, index: u64, tally: &mut Tally) -> Result<(), String> {
     let mut random = Random::of_input(seed, index);
     let input = catch_unwind(AssertUnwindSafe(|| Input::new(&mut random)));
     let input = input.map_err(|_| format!("input {index}: the generator has stopped"))?;
-    let result = catch_unwind(AssertUnwindSafe(|| compare(&mut random, &input, tally)));
+    run_input(&mut random, &input, &index.to_string(), seed, tally)
+}
+
+/// Compares the sheets at the limits of carrying out, each with all rooms; gives their count.
+fn run_limits(seed: u64, tally: &mut Tally) -> Result<usize, String> {
+    let limits = carrying::limits();
+    for (number, limit) in limits.iter().enumerate() {
+        for room in carrying::ROOMS {
+            let input = Input::of_lines(limit.name, &limit.lines, room);
+            let mut random = Random::of_input(seed, number as u64);
+            let name = format!("limit-{number}-{room}");
+            run_input(&mut random, &input, &name, seed, tally)?;
+            let wanted = if room < 32 * MOST_RECORDS {
+                12
+            } else {
+                limit.refusal
+            };
+            let peer = peer::carry(limit.lines.as_flattened(), room / 4);
+            same(limit.name, carry_reply(&peer).refusal, wanted)?;
+        }
+    }
+    Ok(limits.len() * carrying::ROOMS.len())
+}
+
+/// Compares an input; on a difference, says which and writes the input to a file.
+fn run_input(
+    random: &mut Random,
+    input: &Input,
+    name: &str,
+    seed: u64,
+    tally: &mut Tally,
+) -> Result<(), String> {
+    let result = catch_unwind(AssertUnwindSafe(|| compare(random, input, tally)));
     let difference = match result {
         Ok(Ok(())) => return Ok(()),
         Ok(Err(difference)) => difference,
         Err(_) => "the peer has stopped".to_string(),
     };
-    let file = format!("difference-{seed}-{index}.txt");
-    let written = fs::write(&file, shown(&input, &difference));
+    let file = format!("difference-{seed}-{name}.txt");
+    let written = fs::write(&file, shown(input, &difference));
     let place = written.map_or_else(|e| format!("not written: {e}"), |()| format!("see {file}"));
     Err(format!(
-        "input {index} ({}): {difference} ({place})",
+        "input {name} ({}): {difference} ({place})",
         input.style
     ))
 }
@@ -464,7 +548,8 @@ fn shown(input: &Input, difference: &str) -> String {
         shown += &format!("{}\n", line.escape_ascii());
     }
     shown += &format!("\nLent for text: {} bytes, ", input.lent_text);
-    shown += &format!("for steps: {} bytes. ", input.lent_steps);
+    shown += &format!("for steps: {} bytes, ", input.lent_steps);
+    shown += &format!("for records: {} bytes. ", input.lent_records);
     shown += &format!("Lent lines of {} bytes:\n", input.lines.len());
     for line in numbers_of(&input.lines).chunks(8) {
         shown += &format!("{line:?}\n");
@@ -482,6 +567,17 @@ fn main() -> ExitCode {
     };
     let mut tally = Tally::default();
     let start = Instant::now();
+    let limits = match options.only {
+        true => Ok(0),
+        false => run_limits(options.seed, &mut tally),
+    };
+    let limits = match limits {
+        Ok(limits) => limits,
+        Err(difference) => {
+            println!("seed {}: {difference}", options.seed);
+            return ExitCode::FAILURE;
+        }
+    };
     for index in options.from..options.from + options.count {
         if let Err(difference) = run(options.seed, index, &mut tally) {
             println!("seed {}: {difference}", options.seed);
@@ -496,7 +592,7 @@ fn main() -> ExitCode {
         tally.print_statistics();
     }
     println!(
-        "seed {}, {} inputs: {tally}; 0 differences",
+        "seed {}, {} inputs and {limits} at the limits of carrying out: {tally}; 0 differences",
         options.seed, options.count
     );
     ExitCode::SUCCESS

@@ -17,6 +17,7 @@ pub struct Kind {
 }
 
 /// A rule is its B entry and then its H entries.
+#[derive(Clone)]
 pub struct Sheet {
     pub kinds: Vec<Kind>,
     pub rules: Vec<Vec<Entry>>,

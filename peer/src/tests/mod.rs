@@ -1,4 +1,6 @@
 mod answers;
+mod carry;
+mod carrying;
 mod common;
 mod generator;
 mod refusals;

@@ -15,7 +15,7 @@ same-length : tie.Need-same-length
 same-length c = search needs
 
 returns : tie.Need-returns
-returns c = (omega arith, decoded _ _ _ _ (c .before .before .before .before .count-of .ensures) (c .before .before .decode .ensures))
+returns c = (omega arith, decoded _ _ _ _ (c .before .before .before .before .count-of .ensures) (c .before .before .decode .ensures), c .before .before .before .before .count-of .ensures)
 
 pub decode-lines-spec : {M : Type 1} → statement M
 decode-lines-spec = tie.close (tie.spec count-of-requires decode-requires same-length returns)

@@ -12,7 +12,7 @@ use Rattle.chase.specs.Rules.{Head, Rule, nth}
 use Rattle.chase.specs.Simplification.{Applies}
 use Rattle.chase.specs.Shape.{Shape}
 pub use Rattle.chase.specs.inner.Digits.{shapeFrom}
-use Rattle.judging.specs.inner.Table.{KindFits, firstPlace}
+use Rattle.rules.specs.Table.{KindFits, firstPlace}
 
 -- The shape that a number stands for.
 unfoldable pub shapeAt : ℕ → Shape

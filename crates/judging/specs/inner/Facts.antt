@@ -6,7 +6,7 @@ use Rattle.sheet.specs.Line.{Line}
 use Rattle.chase.specs.Lists.{All}
 use Rattle.chase.specs.Rules.{Rule, rulesOf}
 use Rattle.chase.specs.Run.{rowsOf}
-use Rattle.judging.specs.inner.Table.{RuleFits}
+use Rattle.rules.specs.Table.{RuleFits}
 use Rattle.judging.specs.inner.Found.{Kept, Whole, FiredRules}
 use Rattle.judging.specs.inner.Links.{Spreads}
 

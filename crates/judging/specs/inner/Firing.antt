@@ -4,7 +4,7 @@ use mathlib.Core.Bool.{true, false}
 use mathlib.Core.List.{List}
 use Prim.Native.Nat.{ℕ, _+_, _-_, _≤_, _<_}
 use lib.ListN.{length, getD}
-use Rattle.judging.specs.inner.Table.{rowBytes, ruleIn}
+use Rattle.rules.specs.Table.{rowBytes, ruleIn}
 use Rattle.judging.specs.inner.Codes.{FiresOn}
 
 -- Byte 0 of rule i: its kind.

@@ -3,7 +3,7 @@ use mathlib.Core.Path.{_≡_}
 use mathlib.Core.List.{List}
 use Prim.Native.Nat.{ℕ, _+_, _*_, _/_, _<_}
 use lib.ListN.{length, getD}
-use Rattle.judging.specs.inner.Table.{rowBytes}
+use Rattle.rules.specs.Table.{rowBytes}
 use Rattle.judging.specs.inner.Firing.{kindByte}
 use Rattle.judging.specs.inner.Passes.{placeOf}
 

@@ -1,7 +1,7 @@
 -- What the sweeps go by. Assumes nothing.
 use mathlib.Core.List.{List}
 use Prim.Native.Nat.{ℕ}
-use Rattle.judging.specs.inner.Table.{tableRules, TableFits}
+use Rattle.rules.specs.Table.{tableRules, TableFits}
 use Rattle.judging.specs.inner.Firing.{ByKind}
 use Rattle.judging.specs.inner.Links.{Closed}
 use Rattle.judging.specs.inner.Noted.{Noted}

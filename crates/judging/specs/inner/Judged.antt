@@ -3,7 +3,7 @@ use mathlib.Core.Path.{_≡_}
 use mathlib.Core.List.{List}
 use Prim.Native.Nat.{ℕ, _*_, _<_}
 use Rattle.chase.specs.Counting.{share}
-use Rattle.judging.specs.inner.Table.{SheetHeld, rulesIn, rowsIn, tableRules, TableFits}
+use Rattle.rules.specs.Table.{SheetHeld, rulesIn, rowsIn, tableRules, TableFits}
 use Rattle.judging.specs.inner.Found.{Kept, Whole, FiredRules, onesIn}
 use Rattle.judging.specs.inner.Nodes.{at, linkOf}
 use Rattle.judging.specs.inner.Written.{Deepest, InLine}

@@ -9,7 +9,7 @@ use lib.ListN.{length, getD}
 use Rattle.chase.specs.Lists.{In}
 use Rattle.chase.specs.Rules.{Head, Rule, nth}
 use Rattle.chase.specs.Simplification.{Applies}
-use Rattle.judging.specs.inner.Table.{firstPlace, sourceAt}
+use Rattle.rules.specs.Table.{firstPlace, sourceAt}
 use Rattle.judging.specs.inner.Codes.{codeOf, ShapeFits, shapeFrom}
 use Rattle.judging.specs.inner.Found.{shapeNo}
 use Rattle.judging.specs.declared.spread.Turning.{Turning}

@@ -6,7 +6,7 @@ use Prim.Native.Nat.{ℕ, suc, _+_, _*_, _/_, _%_, _≤_, _<_}
 use lib.ListN.{length, getD, set}
 use Rattle.chase.specs.Rules.{Head, nth}
 use Rattle.chase.specs.Simplification.{Applies}
-use Rattle.judging.specs.inner.Table.{rowBytes, ruleIn}
+use Rattle.rules.specs.Table.{rowBytes, ruleIn}
 use Rattle.judging.specs.inner.Codes.{shapeAt, codeOf, shapeFrom}
 use Rattle.judging.specs.inner.Passes.{LineBytes, Upto, HeadLink}
 

@@ -8,7 +8,7 @@ use Prim.Native.Nat.{ℕ, zero, suc, _+_, _*_, _/_, _≤_, _<_}
 use lib.ListN.{length, getD}
 use Rattle.chase.specs.Rules.{Head, nth}
 use Rattle.chase.specs.Simplification.{Applies}
-use Rattle.judging.specs.inner.Table.{rowBytes, ruleIn}
+use Rattle.rules.specs.Table.{rowBytes, ruleIn}
 use Rattle.judging.specs.inner.Codes.{shapeAt, codeOf, shapeFrom}
 use Rattle.judging.specs.inner.Nodes.{at, Grid, fromOf, linkOf, back, weight}
 use Rattle.judging.specs.declared.spread.Raised.{Raised}

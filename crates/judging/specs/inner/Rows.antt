@@ -11,7 +11,7 @@ use Rattle.chase.specs.Run.{rowRecord}
 use Rattle.chase.specs.Shape.{shapeOf}
 use Rattle.chase.specs.Counting.{MoreThan}
 use Rattle.chase.specs.Simplification.{Derived}
-use Rattle.judging.specs.inner.Table.{KindFits, rowsIn}
+use Rattle.rules.specs.Table.{KindFits, rowsIn}
 use Rattle.judging.specs.inner.Found.{Has, Kept}
 use Rattle.judging.specs.declared.search.RowShapes.{RowShapes}
 use Rattle.judging.specs.declared.search.RowShapes.the-variants.{Count, Over}

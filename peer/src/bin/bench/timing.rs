@@ -1,4 +1,4 @@
-//! Times of reading and judging, by the library and by the peer, in turn on the same sheets.
+//! Times of reading, judging and carrying out, by the library and by the peer, in turn on the same sheets.
 //! Inputs and lent memory are ready before; lent memory is not cleared between calls. Times
 //! are this thread's processor time, so that other work on the machine counts little.
 
@@ -8,6 +8,7 @@ use peer::random::sheets::{text_of, Sheet};
 use std::hint::black_box;
 
 const STEPS: usize = 40_960;
+const RECORDS: usize = 131_072;
 
 #[repr(C)]
 struct Timespec {
@@ -53,6 +54,11 @@ impl Ready {
     pub fn good(&self) -> bool {
         let read = peer::read(&self.text, self.numbers.len() / 8);
         read.is_ok() && peer::judge(&self.numbers, STEPS / 2).is_ok()
+    }
+
+    /// The peer's run; none where it is refused.
+    pub fn run(&self) -> Option<peer::Run> {
+        peer::carry(&self.numbers, RECORDS / 4).ok()
     }
 }
 
@@ -142,7 +148,21 @@ pub fn judge_times(effort: &Effort, sheets: &[Ready]) -> Times {
     )
 }
 
-/// The times of one of the two calls on growing sets of sheets: the best of three passes over
+pub fn carry_times(effort: &Effort, sheets: &[Ready]) -> Times {
+    let mut lent = vec![0; RECORDS];
+    times(
+        effort,
+        sheets,
+        |sheet| {
+            black_box(library::carry(black_box(&sheet.lines), &mut lent));
+        },
+        |sheet| {
+            let _ = black_box(peer::carry(black_box(&sheet.numbers), RECORDS / 4));
+        },
+    )
+}
+
+/// The times of one of the calls on growing sets of sheets: the best of three passes over
 /// all sets, a third of the repetitions each, so that a busy moment marks no single one.
 pub fn growing_times(
     effort: &Effort,

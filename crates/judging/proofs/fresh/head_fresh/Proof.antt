@@ -4,7 +4,7 @@ use Prim.Native.Nat.{ℕ, _-_, _≤_, _<_}
 use native.Mathlib.Omega.{arith}
 use borrow.Author.Count.{below-more}
 use borrow.Author.Needs.{needs}
-use Rattle.judging.specs.inner.Table.{rowBytes}
+use Rattle.rules.specs.Table.{rowBytes}
 use Rattle.judging.specs.inner.Passes.{placeOf}
 use Rattle.judging.proofs.LinkLaws.{place-read}
 use Rattle.judging.proofs.fresh.head_fresh.Statement.{statement}

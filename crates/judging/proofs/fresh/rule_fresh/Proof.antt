@@ -3,9 +3,9 @@ use Prim.Native.Nat.{ℕ, _-_, _≤_, _<_}
 use native.Mathlib.Omega.{arith}
 use borrow.Author.Count.{below-more}
 use borrow.Author.Needs.{needs}
-use Rattle.judging.specs.inner.Table.{rowBytes}
+use Rattle.rules.specs.Table.{rowBytes}
 use Rattle.judging.specs.inner.Fresh.{HeadFresh}
-use Rattle.judging.proofs.RuleLaws.{row-size}
+use Rattle.rules.proofs.TableLaws.{row-size}
 use Rattle.judging.proofs.LinkLaws.{line-bytes}
 use Rattle.judging.proofs.fresh.rule_fresh.Statement.{statement}
 use Rattle.judging.proofs.fresh.rule_fresh.Tie as tie

@@ -6,7 +6,7 @@ use native.Mathlib.Omega.{arith}
 use borrow.Author.Needs.{needs}
 use lib.ListN.{getD}
 use Rattle.chase.specs.Simplification.{Applies}
-use Rattle.judging.specs.inner.Table.{rowBytes, ruleIn}
+use Rattle.rules.specs.Table.{rowBytes, ruleIn}
 use Rattle.judging.specs.inner.Codes.{shapeAt, FiresOn}
 use Rattle.judging.proofs.KindLaws.{first-place, fired-place, fire-from}
 use Rattle.judging.proofs.SearchLaws.{Trying, trying, fires-yes}

@@ -4,7 +4,7 @@ use Prim.Native.Nat.{_-_, _≤_}
 use native.Mathlib.Omega.{arith}
 use borrow.Author.Needs.{needs}
 use lib.ListN.{length}
-use Rattle.judging.specs.inner.Table.{rulesIn, rowsIn}
+use Rattle.rules.specs.Table.{rulesIn, rowsIn}
 use Rattle.judging.specs.inner.Rows.{RowsFound}
 use Rattle.judging.proofs.RowLaws.{Reading, reading-begun, rows-begun, whole-line, kind-low, read-kind, read-row, read-other, row-at, read-all, tried-all}
 use Rattle.judging.proofs.search.find_rows.Statement.{statement}

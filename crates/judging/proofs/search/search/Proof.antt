@@ -9,7 +9,7 @@ use lib.ListN.{length}
 use mathlib.Core.Bool.{true, false}
 use Rattle.patterns.specs.Pattern.{digitsOf, patternTable, digitsIn}
 use Rattle.patterns.proofs.PatternRows.{table-rows}
-use Rattle.judging.specs.inner.Table.{ruleIn, rowBytes, rulesIn, rowsIn}
+use Rattle.rules.specs.Table.{ruleIn, rowBytes, rulesIn, rowsIn}
 use Rattle.judging.specs.inner.Codes.{FiresOn}
 use Rattle.judging.proofs.FoundLaws.{zeros, zero-at}
 use Rattle.judging.proofs.KindLaws.{first-place, fired-place, fire-from}

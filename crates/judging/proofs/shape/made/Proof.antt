@@ -6,7 +6,7 @@ use native.Mathlib.Decide.{ℕ-discrete}
 use native.Mathlib.Omega.{arith}
 use lib.ListN.{length, take, length-take}
 use Rattle.patterns.specs.Pattern.{pattern}
-use Rattle.judging.specs.inner.Table.{ruleIn, rowBytes}
+use Rattle.rules.specs.Table.{ruleIn, rowBytes}
 use Rattle.judging.specs.inner.Codes.{CodeIs, madeNumber}
 use Rattle.judging.proofs.RuleLaws.{RowFits, row-fits, headAt, head-below, head-fits, Width, Mark, head-width-read, head-mark-read, Filled, filled-none, filled-more, filled-all, made-of}
 use Rattle.judging.proofs.shape.made.Statement.{statement}

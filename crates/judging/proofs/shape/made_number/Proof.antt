@@ -2,7 +2,7 @@
 use mathlib.Core.Path.{_∙_}
 use native.Mathlib.Omega.{arith}
 use borrow.Author.Needs.{needs}
-use Rattle.judging.specs.inner.Table.{rowBytes}
+use Rattle.rules.specs.Table.{rowBytes}
 use Rattle.judging.proofs.RuleLaws.{RowFits, row-fits, place-few, fresh-number, carried-number}
 use Rattle.judging.proofs.shape.made_number.Statement.{statement}
 use Rattle.judging.proofs.shape.made_number.Tie as tie

@@ -3,7 +3,7 @@ use mathlib.Core.Path.{sym, _∙_}
 use Prim.Native.Nat.{_≤_}
 use native.Mathlib.Omega.{arith}
 use borrow.Author.Needs.{needs}
-use Rattle.judging.specs.inner.Table.{rowBytes}
+use Rattle.rules.specs.Table.{rowBytes}
 use Rattle.judging.proofs.PassLaws.{Among, among-none, among-same, among-new, among-best}
 use Rattle.judging.proofs.spread.best_source.Statement.{statement}
 use Rattle.judging.proofs.spread.best_source.Tie as tie

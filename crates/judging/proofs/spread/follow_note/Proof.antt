@@ -3,7 +3,7 @@ use mathlib.Core.Logic.{⊎-elim}
 use Prim.Native.Nat.{_-_, _≤_}
 use native.Mathlib.Omega.{arith}
 use borrow.Author.Needs.{needs}
-use Rattle.judging.specs.inner.Table.{rowBytes}
+use Rattle.rules.specs.Table.{rowBytes}
 use Rattle.judging.specs.inner.Noted.{ruleOf, lineOf, targetOf}
 use Rattle.judging.specs.inner.Passes.{Done, Upto, FieldLink}
 use Rattle.judging.proofs.PassLaws.{none, next, whole, arrived}

@@ -1,0 +1,19 @@
+-- The pages for a reader are Theorems, Answers and SheetTheorem; the others are the laws that they rest on, and SameRun what the code rests on.
+pub mod AllSheets
+pub mod ListLaws
+pub mod RenameLaws
+pub mod MarkLaws
+pub mod FiringLaws
+pub mod VisitLaws
+pub mod ResultLaws
+pub mod RunLaws
+pub mod Theorems
+pub mod ContractLaws
+pub mod OneAnswer
+pub mod Answers
+pub mod ShapeCount
+pub mod KeyLaws
+pub mod FiringCount
+pub mod SheetMarks
+pub mod SameRun
+pub mod SheetTheorem

@@ -1,0 +1,1 @@
+// What carrying the rules of a sheet out gives.

@@ -1,0 +1,33 @@
+-- Laws of the buckets. Assumes nothing.
+use mathlib.Core.Path.{_≡_, refl, sym, _∙_, ap}
+use mathlib.Core.List.{List, [], _∷_}
+use Prim.Native.Nat.{ℕ, zero, suc, _+_, _*_, _/_, _%_, _≤_, _<_}
+use native.Mathlib.Nat.{mul-le-mul-right}
+use native.Mathlib.Omega.{arith}
+use lib.ListN.{length, getD, drop, drop-of-length-le}
+use lib.Seq.{drop-cons}
+use Rattle.running.specs.inner.Chains.{mixed, bucketIn, mixedAll, bucketOf}
+
+-- What is multiplied fits 64 bits.
+pub product-small : (a b : ℕ) → a < 8589934592 → b < 2147483648 → a * b < 18446744073709551616
+product-small a b h l =
+    let m : a * b ≤ 8589934591 * b = mul-le-mul-right b (omega arith) in
+    omega arith
+
+pub bucket-small : (h : ℕ) → h < 4294967296 → bucketIn h < 4096
+bucket-small h l = omega arith
+
+-- A row's bucket, number by number.
+pub bucket-begin : (by : ℕ) (row : List ℕ) → bucketIn (mixedAll by 0 (drop 0 row)) ≡ bucketOf by row
+unfolding bucketOf
+bucket-begin by row = refl
+
+pub bucket-step : (by : ℕ) (row : List ℕ) (h k r : ℕ) → k < length row → r ≡ mixed by h (getD row k 0) → bucketIn (mixedAll by h (drop k row)) ≡ bucketOf by row
+    → bucketIn (mixedAll by r (drop (k + 1) row)) ≡ bucketOf by row
+bucket-step by row h k r l e q =
+    let more : k + 1 ≡ suc k = omega arith in
+    ap (λ (j : ℕ). bucketIn (mixedAll by r (drop j row))) more ∙ ap (λ (j : ℕ). bucketIn (mixedAll by j (drop (suc k) row))) e
+    ∙ sym (ap (λ (l : List ℕ). bucketIn (mixedAll by h l)) (drop-cons row k 0 l)) ∙ q
+
+pub bucket-end : (by : ℕ) (row : List ℕ) (h k : ℕ) → length row ≤ k → bucketIn (mixedAll by h (drop k row)) ≡ bucketOf by row → bucketIn h ≡ bucketOf by row
+bucket-end by row h k l q = sym (ap (λ (l : List ℕ). bucketIn (mixedAll by h l)) (drop-of-length-le row l)) ∙ q

@@ -1,0 +1,53 @@
+-- `forget` meets its contract: where a chain of pairs begins is set to 0, place by place. Assumes nothing.
+use mathlib.Core.Path.{_∙_, sym}
+use Prim.Native.Nat.{_+_, _-_, _<_, _≤_}
+use native.Mathlib.Omega.{arith}
+use borrow.Author.Needs.{needs}
+use Rattle.running.proofs.CountLaws.{Forgetting, forget-begun, forget-more, forget-done}
+use Rattle.running.proofs.firings.forget.Statement.{statement}
+use Rattle.running.proofs.firings.forget.Tie as tie
+
+abbrev Inv-loop : tie.InvT-loop
+Inv-loop index₀ k₀ index k = Forgetting index₀ index k
+
+abbrev μ-loop : tie.MeasureT-loop
+μ-loop index₀ k₀ index k = 12288 - k
+
+loop-holds : tie.Need-loop-holds Inv-loop μ-loop
+loop-holds c = forget-begun (c .args .index .now) (c .pre)
+
+mul-index : tie.Need-mul-index Inv-loop μ-loop
+mul-index c = search needs
+
+slice-write-index : tie.Need-slice-write-index Inv-loop μ-loop
+slice-write-index c = search needs
+
+add-k : tie.Need-add-k Inv-loop μ-loop
+add-k c = search needs
+
+loop-less : tie.Need-loop-less Inv-loop μ-loop
+loop-less c = search needs
+
+loop-again : tie.Need-loop-again Inv-loop μ-loop
+loop-again c = forget-more (c .before .loop .inv) (c .loop-test .taken)
+
+same-length : tie.Need-same-length Inv-loop μ-loop
+same-length c = c .before .loop .inv .size ∙ sym (c .before .before .pre)
+
+returns : tie.Need-returns Inv-loop μ-loop
+returns c = forget-done (c .before .loop .inv) (c .loop-test .left)
+
+pub forget-spec : {M : Type 1} → statement M
+forget-spec =
+    tie.close
+    (tie.spec
+    Inv-loop
+    μ-loop
+    loop-holds
+    mul-index
+    slice-write-index
+    add-k
+    loop-less
+    loop-again
+    same-length
+    returns)

@@ -1,0 +1,116 @@
+// The table's rows, with which a run begins.
+ghost use mathlib.Core.Path.{_≡_};
+ghost use Prim.Native.Nat.{suc, _+_, _*_, _≤_, _<_, max};
+ghost use lib.ListN.{length, getD, take, drop};
+ghost use Rattle.chase.specs.Lists.{largest};
+ghost use Rattle.rules.specs.Table.{SheetHeld, linesIn};
+ghost use Rattle.judging.specs.inner.Rows.{Clear, rowNumbers};
+ghost use Rattle.carrying.specs.Carrying.{numbersIn, tableRows};
+ghost use Rattle.running.specs.inner.Held.{packed, recordsFit};
+ghost use Rattle.running.specs.inner.Begun.{RowsIn, Begun};
+use crate::hash::mix;
+use crate::records::add;
+use crate::visits::Counts;
+use crate::wide;
+use sheet::LETTER_K;
+use sheet::LETTER_R;
+
+// The largest of `m` and the six numbers of line `n`.
+fn largest_in(lines: &[u32], n: usize, m: usize) -> usize
+    requires { ⌜ 8 * n + 8 ≤ length (now lines) ⌝ }
+    ensures { λ t. ⌜ t ≡ max m (largest (take 6 (drop (8 * n + 2) (now (lines .entry))))) ⌝ }
+{
+    let mut t = m;
+    let mut k: usize = 2;
+    while k < 8 {
+        let x = wide::of_u32(lines[8 * n + k]);
+        if t < x {
+            t = x;
+        }
+        k += 1;
+    }
+    t
+}
+
+// The table's largest value; 0 where there is none.
+fn largest_value(lines: &[u32]) -> usize
+    requires { ⌜ SheetHeld (now lines) ⌝ }
+    ensures { λ t. ⌜ (t ≡ largest (numbersIn (tableRows (linesIn (now (lines .entry)))))) × (t ≤ 99999999) ⌝ }
+{
+    let mut t: usize = 0;
+    let mut n: usize = 0;
+    while 8 * n < lines.len() {
+        if lines[8 * n] == LETTER_R {
+            t = largest_in(lines, n, t);
+        }
+        n += 1;
+    }
+    t
+}
+
+// A multiplier for the hash, drawn from the first number of each line.
+fn multiplier(lines: &[u32]) -> usize
+    requires { ⌜ SheetHeld (now lines) ⌝ }
+    ensures { λ by. ⌜ by < 2147483648 ⌝ }
+{
+    let mut h: usize = 1;
+    let mut n: usize = 0;
+    while 8 * n < lines.len() {
+        h = mix(1640531527, h, wide::of_u32(lines[8 * n + 2]));
+        n += 1;
+    }
+    1073741825 + h % 536870912 * 2
+}
+
+// The seven numbers of the row at line `n`, whose kind has this width.
+fn row_at(lines: &[u32], n: usize, width: usize) -> [u32; 7]
+    requires { ⌜ (8 * n + 8 ≤ length (now lines)) × (width ≤ 6) × (getD (now lines) (8 * n + 1) 0 ≤ 64) ⌝ }
+    ensures { λ row. ⌜ row ≡ packed (record { kind = getD (now (lines .entry)) (8 * n + 1) 0; numbers = rowNumbers (now (lines .entry)) n width }) ⌝ }
+{
+    let mut row = [0u32; 7];
+    row[0] = (wide::of_u32(lines[8 * n + 1]) * 8 + width) as u32;
+    let mut k: usize = 0;
+    while k < width {
+        row[1 + k] = lines[8 * n + 2 + k];
+        k += 1;
+    }
+    row
+}
+
+// Puts the rows in order, repeats dropped. Answers how many there are.
+fn put_rows(lines: &[u32], rows: &mut [u32], index: &mut [u16], by: usize) -> usize
+    requires { ⌜ SheetHeld (now lines) × recordsFit (now rows) × Clear (now index) 24576 × (by < 2147483648) ⌝ }
+    ensures { λ count. ⌜ RowsIn (now (lines .entry)) (now (rows .entry)) (now (rows .exit)) (now (index .exit)) by count ⌝ }
+{
+    let mut widths = [0u32; 65];
+    let mut count: usize = 0;
+    let mut n: usize = 0;
+    while 8 * n < lines.len() {
+        let letter = lines[8 * n];
+        let kind = lines[8 * n + 1] as usize;
+        if letter == LETTER_K {
+            widths[kind] = lines[8 * n + 2];
+        } else if letter == LETTER_R {
+            let row = row_at(lines, n, wide::of_u32(widths[kind]));
+            count = add(rows, index, by, count, &row);
+        }
+        n += 1;
+    }
+    count
+}
+
+// Begins a run: the rows in order, repeats dropped, and the number after the table's largest value.
+pub(crate) fn begin(lines: &[u32], rows: &mut [u32], index: &mut [u16]) -> Counts
+    requires { ⌜ SheetHeld (now lines) × recordsFit (now rows) × Clear (now index) 24576 ⌝ }
+    ensures { λ c. ⌜ Begun (now (lines .entry)) (now (rows .entry)) (now (rows .exit)) (now (index .exit)) c ⌝ }
+{
+    let next = largest_value(lines) + 1;
+    let by = multiplier(lines);
+    let count = put_rows(lines, rows, index, by);
+    Counts {
+        rows: count,
+        pairs: 0,
+        next,
+        by,
+    }
+}
