@@ -59,7 +59,7 @@ module _ (numbers before now : List ℕ) where
     pub large : largestNumber < top lines + fresh
     pub room : length now ≡ length before
 
-  -- The contract: which answer may be given to these lent lines and rows, with so many lent places, and what the lent rows then hold.
+  -- The contract: which answer may be given to these lent lines and rows, with so many lent places, and what the lent rows then hold. With another number of places than is asked for, a run may say so or answer; what it answers is right.
   abbrev pub RunMeets : ℕ → Ran → Type 0
   RunMeets places (ended records firings) = recordsFit before × Ended records firings
   RunMeets places recordsOver = recordsFit before × Passes

@@ -57,7 +57,7 @@ pub record Left (table numbers : List ℕ) (rules : ℕ) (before : Counts) (numb
   pub over : 4096 < c .rows → Over s
   pub same : (i : ℕ) → i < before .rows → rowAt numbers' i ≡ rowAt numbers i
 
--- A rule with fresh marks on a row on which it fires.
+-- A rule whose pairs are kept, on a row on which it fires.
 abbrev pub firedOnce : ℕ → Rule → Row → State → State
 firedOnce n r w s = pick (in? Pair-discrete (pairOf n r w) (s .fired)) s (fired n r w s)
 
