@@ -40,6 +40,10 @@ module _ {before : List ℕ} {at size : ℕ} {f : ℕ → ℕ} {after : List ℕ
             (getD-set-same after (at + size) x 0 (omega arith) ∙ e);
       }
 
+  -- The same, by its place.
+  pub part-next : {x k : ℕ} → k ≡ at + size → k < length before → x ≡ f size → Part before at (size + 1) f (set after k x)
+  part-next {x} {k} e room is = subst (λ (j : ℕ). Part before at (size + 1) f (set after j x)) (sym e) (part-more (omega arith) is)
+
   -- Bytes past the end that are right as they stand.
   pub part-wider : (more : ℕ) → size ≤ more → ((i : ℕ) → size ≤ i → i < more → getD before (at + i) 0 ≡ f i) → Part before at more f after
   part-wider more h e = record { whole = p .whole; below = p .below; above = λ j l. p .above j (omega arith); bytes = λ i l. go i l (decLt i size) }
@@ -66,30 +70,13 @@ module _ {before : List ℕ} {at size : ℕ} {f : ℕ → ℕ} {after : List ℕ
 
 -- ---- zeros
 
--- The first i bytes are 0.
-pub record Cleared (before : List ℕ) (i : ℕ) (after : List ℕ) : Type 0 where
-  pub whole : length after ≡ length before
-  pub zeros : (j : ℕ) → j < i → getD after j 0 ≡ 0
-
-pub cleared-none : (before : List ℕ) → Cleared before 0 before
-cleared-none before = record { whole = refl; zeros = λ j h. absurd (omega arith) }
-
-module _ {before : List ℕ} {i : ℕ} {after : List ℕ} (c : Cleared before i after) where
-  pub cleared-more : i < length after → Cleared before (i + 1) (set after i 0)
-  cleared-more h =
-      record {
-        whole = length-set after i 0 ∙ c .whole;
-        zeros = below-more (λ j. getD (set after i 0) j 0 ≡ 0) i
-            (λ j l. getD-set-other after i j 0 0 (λ q. omega arith) ∙ c .zeros j l)
-            (getD-set-same after i 0 0 h);
-      }
-
-  pub cleared-all : length after ≤ i → (length after ≡ length before) × Blank after 0
-  cleared-all h = (c .whole, record { each = λ j l. go j (decLt j i) })
-    where
-      go : (j : ℕ) → Dec (j < i) → getD after j 0 ≡ 0
-      go j (yes s) = c .zeros j s
-      go j (no s) = List·getD-eq-default after 0 {n = j} (omega arith)
+-- All bytes are 0 where as many as there are were put so.
+pub part-zeros : {before : List ℕ} {size : ℕ} {after : List ℕ} → Part before 0 size (λ i. 0) after → length after ≤ size → Blank after 0
+part-zeros {before} {size} {after} p h = record { each = λ j l. go j (decLt j size) }
+  where
+    go : (j : ℕ) → Dec (j < size) → getD after j 0 ≡ 0
+    go j (yes s) = ap (λ (k : ℕ). getD after k 0) (let e : j ≡ 0 + j = omega arith in e) ∙ p .bytes j s
+    go j (no s) = List·getD-eq-default after 0 {n = j} (omega arith)
 
 -- ---- the marks of a line
 

@@ -25,12 +25,12 @@ use Rattle.carrying.specs.Contract.{recordLimit, recordRoom, rowLine, run, Take
 use Rattle.carrying.proofs.ContractLaws.{one-sheet}
 use Rattle.running.specs.Held.{rowsAt, recordsFit, Holds}
 use Rattle.running.specs.Run.{Ended, Passes, Outgrows, RunMeets}
-use Rattle.running.specs.Answer.{runSays, carryRefusalNumber, carryRefusalLine, Judged}
+use Rattle.running.specs.Answer.{runSays, carryRefusalNumber, carryRefusalLine}
 use Rattle.running.specs.declared.Totals.{Totals}
 use Rattle.running.specs.declared.CarryRefusal.{CarryRefusal}
 use Rattle.running.specs.declared.RunAnswer.{RunAnswer}
 use Rattle.running.specs.declared.RunAnswer.the-variants.{Ended as RunEnded, RecordsOver as RunRecordsOver, NumberOver as RunNumberOver, LineWrong as RunLineWrong, RoomWrong as RunRoomWrong}
-use Rattle.running.specs.inner.Carry.{Settled}
+use Rattle.running.specs.inner.Carry.{Judged, Settled}
 
 module _ (numbers before : List ℕ) (room : recordRoom ≤ length before) where
   -- Judge's refusals are those of carrying out, since steps enough were lent.

@@ -12,6 +12,8 @@ use Rattle.patterns.specs.Pattern.{pick, add, addAll}
 use Rattle.patterns.proofs.PatternLaws.{pick-yes, pick-no}
 use Rattle.chase.specs.Rules.{Rule}
 use Rattle.rules.specs.Table.{TableFits}
+use Rattle.rules.specs.inner.Bytes.{Part}
+use Rattle.rules.proofs.PartLaws.{part-zeros}
 use Rattle.judging.specs.inner.Rows.{Clear}
 use Rattle.carrying.specs.Carrying.{Row, Pair, Pair-discrete, FiresOn, firesOn?, pairOf}
 use Rattle.carrying.specs.inner.Keys.{pairsOn, firingsOn}
@@ -20,7 +22,7 @@ use Rattle.running.specs.inner.Held.{bucketAt, rowAt, rowsAt, section, S
 use Rattle.running.specs.inner.Firing.{ruleAt, rowNo, RecordIn}
 use Rattle.running.specs.inner.Pairs.{pairBucket, IsPair, RecordsIn, InBucket, pairsAt}
 use Rattle.running.specs.inner.Visits.{Running, rulesFrom}
-use Rattle.running.specs.inner.Counted.{NoPairs, Forgotten}
+use Rattle.running.specs.inner.Counted.{NoPairs}
 use Rattle.running.specs.declared.visits.Counts.{Counts}
 use Rattle.running.proofs.RecordLaws.{add-there, add-new, section-cell, section-length, section-same}
 use Rattle.running.proofs.FiringLaws.{addAll-last, stored-record}
@@ -28,40 +30,14 @@ use Rattle.running.proofs.VisitLaws.{pairsAt-length, records-in, noted-
 
 -- ---- pairs forgotten
 
--- The chains below place k begin nowhere.
-pub record Forgetting (before index : List ℕ) (k : ℕ) : Type 0 where
-  pub size : length index ≡ 24576
-  pub low : 8192 ≤ k
-  pub within : k ≤ 12288
-  pub empty : (j : ℕ) → 8192 ≤ j → j < k → getD index j 0 ≡ 0
-  pub same : (j : ℕ) → j < 8192 → getD index j 0 ≡ getD before j 0
+pub no-pairs : {before index : List ℕ} → length before ≡ 24576 → Part before 8192 4096 (λ k. 0) index → NoPairs index
+no-pairs e p = record { size = p .whole ∙ e; empty = p .bytes }
 
-pub forget-begun : (index : List ℕ) → length index ≡ 24576 → Forgetting index index 8192
-forget-begun index e =
-    record { size = e; low = omega arith; within = omega arith; empty = λ j l h. absurd (omega arith); same = λ j h. refl }
-
-pub forget-more : {before index : List ℕ} {k : ℕ} → Forgetting before index k → k < 12288 → Forgetting before (set index k 0) (k + 1)
-forget-more {before} {index} {k} f l =
-    record {
-      size = length-set index k 0 ∙ f .size;
-      low = omega (arith, f .low);
-      within = omega arith;
-      empty = λ j m h. go j m h (ℕ-discrete j k);
-      same = λ j h. getD-set-other index k j 0 0 (λ e. omega (arith, f .low)) ∙ f .same j h;
-    }
-  where
-    go : (j : ℕ) → 8192 ≤ j → j < k + 1 → Dec (j ≡ k) → getD (set index k 0) j 0 ≡ 0
-    go j m h (yes e) = ap (λ (x : ℕ). getD (set index k 0) x 0) e ∙ getD-set-same index k 0 0 (omega (arith, f .size))
-    go j m h (no e) = getD-set-other index k j 0 0 e ∙ f .empty j m (omega arith)
-
-pub forget-done : {before index : List ℕ} {k : ℕ} → Forgetting before index k → 12288 ≤ k → Forgotten before index
-forget-done f l = record { none = record { size = f .size; empty = λ b h. f .empty (8192 + b) (omega arith) (omega arith) }; same = f .same }
-
-pub stored-forgotten : {numbers before index : List ℕ} {by count : ℕ} → Stored numbers before by count → Forgotten before index → Stored numbers index by count
-stored-forgotten {numbers} {before} {index} {by} {count} s f =
+pub stored-forgotten : {numbers before index : List ℕ} {by count : ℕ} → Stored numbers before by count → Part before 8192 4096 (λ k. 0) index → Stored numbers index by count
+stored-forgotten {numbers} {before} {index} {by} {count} s p =
     record {
       room = s .room;
-      size = f .none .size;
+      size = p .whole ∙ s .size;
       mixing = s .mixing;
       few = s .few;
       each = s .each;
@@ -70,7 +46,7 @@ stored-forgotten {numbers} {before} {index} {by} {count} s f =
     }
   where
     part : (n : ℕ) → n ≤ 1 → section n index ≡ section n before
-    part n l = section-same n index before (omega (arith, f .none .size)) (omega (arith, s .size)) (λ k h. f .same (4096 * n + k) (omega arith))
+    part n l = section-same n index before (omega (arith, p .whole, s .size)) (omega (arith, s .size)) (λ k h. p .below (4096 * n + k) (omega arith))
 
 -- ---- one row more
 
@@ -251,27 +227,7 @@ totalling-done {table} {numbers} {index} {rules} {count} {by} {n} {r} t l =
     let q = ap (λ (k : ℕ). firingsOn (suc r) (rulesFrom table r k) (rowsAt numbers count)) e in
     omega (arith, q, t .rest)
 
--- ---- all forgotten
+-- ---- all places cleared
 
--- The places below k are 0.
-pub record Clearing (index : List ℕ) (k : ℕ) : Type 0 where
-  pub size : length index ≡ 24576
-  pub zeros : (j : ℕ) → j < k → getD index j 0 ≡ 0
-
-pub clearing-begun : (index : List ℕ) → length index ≡ 24576 → Clearing index 0
-clearing-begun index e = record { size = e; zeros = λ j h. absurd (omega arith) }
-
-pub clearing-more : {index : List ℕ} {k : ℕ} → Clearing index k → k < 24576 → Clearing (set index k 0) (k + 1)
-clearing-more {index} {k} c l =
-    record {
-      size = length-set index k 0 ∙ c .size;
-      zeros = below-more (λ j. getD (set index k 0) j 0 ≡ 0) k (λ j h. getD-set-other index k j 0 0 (λ q. omega arith) ∙ c .zeros j h)
-          (getD-set-same index k 0 0 (omega (arith, c .size)));
-    }
-
-pub clearing-done : {index : List ℕ} {k : ℕ} → Clearing index k → 24576 ≤ k → Clear index 24576
-clearing-done {index} {k} c l = record { size = c .size; zeros = λ j. go j (decLt j k) }
-  where
-    go : (j : ℕ) → Dec (j < k) → getD index j 0 ≡ 0
-    go j (yes h) = c .zeros j h
-    go j (no h) = List·getD-eq-default index 0 (omega (arith, c .size))
+pub all-clear : {before index : List ℕ} → length before ≡ 24576 → Part before 0 24576 (λ k. 0) index → Clear index 24576
+all-clear e p = record { size = p .whole ∙ e; zeros = λ k. part-zeros p (omega (arith, e, p .whole)) .each k (omega arith) }

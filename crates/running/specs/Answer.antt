@@ -1,8 +1,5 @@
--- The paper's numbers for the answers of carrying out; Judge's answer without its steps. Assumes nothing.
-use mathlib.Core.List.{List}
-use Prim.Native.Nat.{ℕ, _*_, _≤_}
-use lib.ListN.{length}
-use Rattle.chase.specs.Judge.{Judgement, JudgeMeets, stepLimit, shapeLimit}
+-- The paper's numbers for the answers of carrying out. Assumes nothing.
+use Prim.Native.Nat.{ℕ}
 use Rattle.carrying.specs.Contract.{Carried, carried, refuses}
 use Rattle.running.specs.Run.{Ran, ended, recordsOver, numberOver, lineWrong, roomWrong}
 use Rattle.running.specs.declared.Totals.{Totals}
@@ -39,10 +36,3 @@ runSays RecordsPass = recordsOver
 runSays NumberPasses = numberOver
 runSays (WrongLine line) = lineWrong line
 runSays RoomWrong = roomWrong
-
--- Judge answers so where steps enough are lent.
-pub record Judged (numbers : List ℕ) (said : Judgement) : Type 0 where
-  pub steps : List ℕ
-  pub room : 5 * stepLimit ≤ length steps
-  pub left : List ℕ
-  pub meets : JudgeMeets shapeLimit numbers steps said left

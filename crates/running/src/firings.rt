@@ -10,23 +10,12 @@ ghost use Rattle.carrying.specs.inner.Keys.{pairsOn, firingsOn};
 ghost use Rattle.running.specs.inner.Held.{rowsAt, Stored};
 ghost use Rattle.running.specs.inner.Firing.{ruleAt};
 ghost use Rattle.running.specs.inner.Visits.{rulesFrom};
-ghost use Rattle.running.specs.inner.Counted.{Forgotten, NoPairs};
+ghost use Rattle.running.specs.inner.Counted.{NoPairs};
+use crate::clear;
 use crate::firing::fires;
 use crate::pairs::bucket;
 use crate::pairs::find;
 use crate::pairs::note;
-
-// Forgets all pairs: their chains are empty.
-fn forget(index: &mut [u16])
-    requires { ⌜ length (now index) ≡ 24576 ⌝ }
-    ensures { λ _. ⌜ Forgotten (now (index .entry)) (now (index .exit)) ⌝ }
-{
-    let mut k: usize = 8192;
-    while k < 12288 {
-        index[k] = 0;
-        k += 1;
-    }
-}
 
 // How many different carried values rule `r` has on the records on which it fires. No pair is noted before.
 fn firings_of(
@@ -57,7 +46,7 @@ fn firings_of(
     n
 }
 
-// How many firings there were, of all rules.
+// How many firings there were, of all rules. Where the chains of the pairs begin is cleared for each.
 pub(crate) fn firings(
     rows: &[u32],
     index: &mut [u16],
@@ -72,7 +61,7 @@ pub(crate) fn firings(
     let mut n: usize = 0;
     let mut r: usize = 0;
     while r < rules {
-        forget(index);
+        clear(index, 8192, 4096);
         n += firings_of(rows, index, table, rules, r, count, by);
         r += 1;
     }

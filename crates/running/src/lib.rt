@@ -11,15 +11,16 @@ mod visits;
 mod wide;
 
 ghost use mathlib.Core.Path.{_≡_};
-ghost use Prim.Native.Nat.{_≤_};
+ghost use Prim.Native.Nat.{_+_, _≤_};
 ghost use lib.ListN.{length};
-ghost use Rattle.judging.specs.Answer.{judgeSays, judgeRefusalNumber, judgeRefusalLine};
+ghost use Rattle.judging.specs.Answer.{judgeRefusalNumber, judgeRefusalLine};
 ghost use Rattle.judging.specs.inner.Rows.{Clear};
 ghost use Rattle.rules.specs.Table.{SheetHeld, TableFits, tableRules, rulesIn};
+ghost use Rattle.rules.specs.inner.Bytes.{Part};
 ghost use Rattle.carrying.specs.Contract.{CarryMeets};
 ghost use Rattle.running.specs.Held.{recordsFit};
 ghost use Rattle.running.specs.Run.{RunMeets};
-ghost use Rattle.running.specs.Answer.{carrySays, runSays, carryRefusalNumber, carryRefusalLine, Judged};
+ghost use Rattle.running.specs.Answer.{carrySays, runSays, carryRefusalNumber, carryRefusalLine};
 ghost use Rattle.running.specs.inner.Begun.{RanWith};
 ghost use Rattle.running.specs.inner.Carry.{Settled};
 use judging::JudgeAnswer;
@@ -81,8 +82,9 @@ pub fn carry_out(lines: &[u32], records: &mut [u32]) -> CarryAnswer
     if records.len() < 32768 {
         return CarryAnswer::Refused(CarryRefusal::RecordsShort);
     }
-    match judged(lines) {
-        JudgeAnswer::Settles(_) => carry_settled(lines, records),
+    let mut places = no_places();
+    match judging::judge(lines, &mut places) {
+        JudgeAnswer::Settles(_) => carry_settled(lines, &mut places, records),
         JudgeAnswer::Endless(_) => CarryAnswer::Refused(CarryRefusal::Endless),
         JudgeAnswer::Refused(refusal) => CarryAnswer::Refused(judge_refused(refusal)),
     }
@@ -135,14 +137,14 @@ pub fn run(lines: &[u32], rows: &mut [u32], places: &mut [u16]) -> RunAnswer
     }
 }
 
-// Forgets all records and pairs.
-fn clear(index: &mut [u16])
-    requires { ⌜ length (now index) ≡ 24576 ⌝ }
-    ensures { λ _. ⌜ Clear (now (index .exit)) 24576 ⌝ }
+// Sets so many places, from `at` on, to 0.
+fn clear(index: &mut [u16], at: usize, size: usize)
+    requires { ⌜ at + size ≤ length (now index) ⌝ }
+    ensures { λ _. ⌜ Part (now (index .entry)) at size (λ k. 0) (now (index .exit)) ⌝ }
 {
     let mut k: usize = 0;
-    while k < 24576 {
-        index[k] = 0;
+    while k < size {
+        index[at + k] = 0;
         k += 1;
     }
 }
@@ -158,7 +160,7 @@ fn run_rules(
     requires { ⌜ SheetHeld (now lines) × recordsFit (now rows) × (length (now index) ≡ 24576) × TableFits (now table) rules × (tableRules (now table) rules ≡ rulesIn (now lines)) ⌝ }
     ensures { λ r. ⌜ RunMeets (now (lines .entry)) (now (rows .entry)) (now (rows .exit)) (length (now (index .entry))) (runSays r) ⌝ }
 {
-    clear(index);
+    clear(index, 0, 24576);
     let noted = run_with(lines, rows, index, table, rules, 1);
     let records = noted.rows;
     let firings = noted.pairs;
@@ -182,7 +184,7 @@ fn run_again(
     requires { ⌜ SheetHeld (now lines) × recordsFit (now rows) × (length (now index) ≡ 24576) × TableFits (now table) rules × (tableRules (now table) rules ≡ rulesIn (now lines)) ⌝ }
     ensures { λ r. ⌜ RunMeets (now (lines .entry)) (now (rows .entry)) (now (rows .exit)) (length (now (index .entry))) (runSays r) ⌝ }
 {
-    clear(index);
+    clear(index, 0, 24576);
     let last = run_with(lines, rows, index, table, rules, 0);
     let records = last.rows;
     if 4096 < records {
@@ -212,14 +214,6 @@ fn run_with(
     visits::visit_all(rows, index, table, rules, &fresh, first)
 }
 
-// Judges lent lines, with steps of its own.
-pub fn judged(lines: &[u32]) -> JudgeAnswer
-    ensures { λ r. ⌜ Judged (now (lines .entry)) (judgeSays r) ⌝ }
-{
-    let mut steps = [0u16; 20480];
-    judging::judge(lines, &mut steps)
-}
-
 // A refusal of judging as one of carrying out, with the same number and line.
 pub fn judge_refused(refusal: JudgeRefusal) -> CarryRefusal
     ensures { λ r. ⌜ (carryRefusalNumber r ≡ judgeRefusalNumber refusal) × (carryRefusalLine r ≡ judgeRefusalLine refusal) ⌝ }
@@ -238,14 +232,20 @@ fn no_rows() -> [u32; 28672]
     [0u32; 28672]
 }
 
+// Places in which records and pairs are looked up. Judging puts its steps there before.
+fn no_places() -> [u16; 24576]
+    ensures { λ r. ⌜ length r ≡ 24576 ⌝ }
+{
+    [0u16; 24576]
+}
+
 // Carries the rules of a sheet out that settles.
-fn carry_settled(lines: &[u32], records: &mut [u32]) -> CarryAnswer
-    requires { ⌜ Settled (now lines) (now records) ⌝ }
+fn carry_settled(lines: &[u32], places: &mut [u16], records: &mut [u32]) -> CarryAnswer
+    requires { ⌜ Settled (now lines) (now records) × (length (now places) ≡ 24576) ⌝ }
     ensures { λ r. ⌜ CarryMeets (now (lines .entry)) (now (records .entry)) (carrySays r) (now (records .exit)) ⌝ }
 {
     let mut rows = no_rows();
-    let mut places = [0u16; 24576];
-    match run(lines, &mut rows, &mut places) {
+    match run(lines, &mut rows, places) {
         RunAnswer::Ended(totals) => {
             copying::copy_out(&rows, totals.records, records);
             CarryAnswer::Carried(totals)

@@ -1,20 +1,24 @@
 -- `clear` meets its contract: place by place. Assumes nothing.
-use mathlib.Core.Path.{_∙_, sym}
-use Prim.Native.Nat.{_+_, _-_, _<_, _≤_}
+use mathlib.Core.Path.{_≡_, refl, subst}
+use Prim.Native.Nat.{ℕ, _+_, _-_, _<_, _≤_}
 use native.Mathlib.Omega.{arith}
 use borrow.Author.Needs.{needs}
-use Rattle.running.proofs.CountLaws.{Clearing, clearing-begun, clearing-more, clearing-done}
+use Rattle.rules.specs.inner.Bytes.{Part}
+use Rattle.rules.proofs.PartLaws.{part-none, part-more}
 use Rattle.running.proofs.clear.Statement.{statement}
 use Rattle.running.proofs.clear.Tie as tie
 
 abbrev Inv-loop : tie.InvT-loop
-Inv-loop index₀ k₀ index k = Clearing index k
+Inv-loop index₀ at size k₀ index k = (k ≤ size) × Part index₀ at k (λ j. 0) index
 
 abbrev μ-loop : tie.MeasureT-loop
-μ-loop index₀ k₀ index k = 24576 - k
+μ-loop index₀ at size k₀ index k = size - k
 
 loop-holds : tie.Need-loop-holds Inv-loop μ-loop
-loop-holds c = clearing-begun (c .args .index .now) (c .pre)
+loop-holds c = (omega arith, part-none _ _ (λ j. 0))
+
+add-index : tie.Need-add-index Inv-loop μ-loop
+add-index c = search needs
 
 mul-index : tie.Need-mul-index Inv-loop μ-loop
 mul-index c = search needs
@@ -29,13 +33,13 @@ loop-less : tie.Need-loop-less Inv-loop μ-loop
 loop-less c = search needs
 
 loop-again : tie.Need-loop-again Inv-loop μ-loop
-loop-again c = clearing-more (c .before .loop .inv) (c .loop-test .taken)
+loop-again c = (omega arith, part-more (c .before .loop .inv .1) (omega (arith, c .loop-test .taken, c .before .before .pre)) refl)
 
 same-length : tie.Need-same-length Inv-loop μ-loop
-same-length c = c .before .loop .inv .size ∙ sym (c .before .before .pre)
+same-length c = c .before .loop .inv .1 .whole
 
 returns : tie.Need-returns Inv-loop μ-loop
-returns c = clearing-done (c .before .loop .inv) (c .loop-test .left)
+returns c = let e : c .before .loop .k ≡ c .before .before .args .size = omega (arith, c .before .loop .inv .0, c .loop-test .left) in subst (λ (n : ℕ). Part (c .before .before .args .index .now) (c .before .before .args .at) n (λ j. 0) (c .before .loop .index)) e (c .before .loop .inv .1)
 
 pub clear-spec : {M : Type 1} → statement M
 clear-spec =
@@ -44,6 +48,7 @@ clear-spec =
     Inv-loop
     μ-loop
     loop-holds
+    add-index
     mul-index
     slice-write-index
     add-k

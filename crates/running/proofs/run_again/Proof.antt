@@ -1,16 +1,17 @@
 -- `run_again` meets its contract: the run that keeps fewer pairs, its firings counted afterwards. Assumes nothing.
 use mathlib.Core.Path.{refl}
 use native.Mathlib.Omega.{arith}
+use Rattle.running.proofs.CountLaws.{all-clear}
 use Rattle.running.proofs.RunLaws.{ran-stored, run-passes, run-outgrows, run-ended}
 use borrow.Author.Needs.{needs}
 use Rattle.running.proofs.run_again.Statement.{statement}
 use Rattle.running.proofs.run_again.Tie as tie
 
 clear-requires : tie.Need-clear-requires
-clear-requires c κs = search needs
+clear-requires c κs = omega (arith, c .before .before .before .before .pre .2)
 
 run-with-requires : tie.Need-run-with-requires
-run-with-requires c κs = search needs
+run-with-requires c κs = (c .before .before .before .before .before .before .before .before .before .pre .0, c .before .before .before .before .before .before .before .before .before .pre .1, all-clear (c .before .before .before .before .before .before .before .before .before .pre .2) (c .before .before .before .before .clear .ensures), c .before .before .before .before .before .before .before .before .before .pre .3, c .before .before .before .before .before .before .before .before .before .pre .4, omega arith)
 
 same-length : tie.Need-same-length
 same-length c = search needs

@@ -2,16 +2,17 @@
 use mathlib.Core.Path.{refl}
 use native.Mathlib.Omega.{arith}
 use Rattle.running.specs.Answer.{runSays}
+use Rattle.running.proofs.CountLaws.{all-clear}
 use Rattle.running.proofs.RunLaws.{ran-room, noted-outgrows, noted-ended, meets-before}
 use borrow.Author.Needs.{needs}
 use Rattle.running.proofs.run_rules.Statement.{statement}
 use Rattle.running.proofs.run_rules.Tie as tie
 
 clear-requires : tie.Need-clear-requires
-clear-requires c κs = search needs
+clear-requires c κs = omega (arith, c .before .before .before .before .pre .2)
 
 run-with-requires : tie.Need-run-with-requires
-run-with-requires c κs = (c .before .before .before .before .before .before .before .before .before .pre .0, c .before .before .before .before .before .before .before .before .before .pre .1, c .before .before .before .before .clear .ensures, c .before .before .before .before .before .before .before .before .before .pre .3, c .before .before .before .before .before .before .before .before .before .pre .4, omega arith)
+run-with-requires c κs = (c .before .before .before .before .before .before .before .before .before .pre .0, c .before .before .before .before .before .before .before .before .before .pre .1, all-clear (c .before .before .before .before .before .before .before .before .before .pre .2) (c .before .before .before .before .clear .ensures), c .before .before .before .before .before .before .before .before .before .pre .3, c .before .before .before .before .before .before .before .before .before .pre .4, omega arith)
 
 same-length : tie.Need-same-length
 same-length c = search needs

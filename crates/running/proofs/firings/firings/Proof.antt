@@ -3,7 +3,7 @@ use mathlib.Core.Path.{sym, _∙_}
 use Prim.Native.Nat.{_+_, _-_, _*_, _<_, _≤_}
 use native.Mathlib.Omega.{arith}
 use borrow.Author.Needs.{needs}
-use Rattle.running.proofs.CountLaws.{stored-forgotten, Totalling, totalling-begun, totalling-more, totalling-done}
+use Rattle.running.proofs.CountLaws.{no-pairs, stored-forgotten, Totalling, totalling-begun, totalling-more, totalling-done}
 use Rattle.running.proofs.firings.firings.Statement.{statement}
 use Rattle.running.proofs.firings.firings.Tie as tie
 
@@ -18,15 +18,15 @@ loop-holds c =
     let s = c .before .before in
     totalling-begun (s .args .table .now) (s .args .rules) (s .pre .0)
 
-forget-requires : tie.Need-forget-requires Inv-loop μ-loop
-forget-requires c κs = c .before .before .loop .inv .stored .size
+clear-requires : tie.Need-clear-requires Inv-loop μ-loop
+clear-requires c κs = omega (arith, c .before .before .loop .inv .stored .size)
 
 firings-of-requires : tie.Need-firings-of-requires Inv-loop μ-loop
 firings-of-requires c κs =
     let f = c .before .before .before in
     let l = f .before .before in
     let s = l .before .before .before .before in
-    (stored-forgotten (l .before .loop .inv .stored) (f .forget .ensures), f .forget .ensures .none, s .pre .1, l .loop-test .taken)
+    (stored-forgotten (l .before .loop .inv .stored) (f .clear .ensures), no-pairs (l .before .loop .inv .stored .size) (f .clear .ensures), s .pre .1, l .loop-test .taken)
 
 add-n : tie.Need-add-n Inv-loop μ-loop
 add-n c =
@@ -59,7 +59,7 @@ firings-spec =
     Inv-loop
     μ-loop
     loop-holds
-    forget-requires
+    clear-requires
     firings-of-requires
     add-n
     add-r
