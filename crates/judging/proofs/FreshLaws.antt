@@ -13,7 +13,7 @@ use Rattle.judging.specs.inner.Nodes.{Zeros}
 use Rattle.judging.specs.inner.Passes.{Rests, FieldLink, carriedLink, freshLink, EachLink}
 use Rattle.judging.specs.inner.Fresh.{HeadFresh, RuleFresh, FreshKinds, FirstWaiting}
 use Rattle.judging.proofs.GraphLaws.{shape-own}
-use Rattle.judging.proofs.RuleLaws.{rule-kind}
+use Rattle.rules.proofs.RuleLaws.{rule-kind}
 use Rattle.judging.proofs.SearchLaws.{kind-of}
 
 -- KINDS. No rule is looked at.

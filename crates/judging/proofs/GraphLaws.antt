@@ -19,7 +19,7 @@ use Rattle.judging.specs.inner.Links.{Begins, carried, new, Link, Closed
 use Rattle.judging.specs.inner.Passes.{FieldLink, carriedLink, freshLink, ShapeLink, EachLink, Onward, placeOf}
 use Rattle.judging.proofs.CodeLaws.{code-of-shape, shape-of-code, shapeFrom-fits}
 use Rattle.rules.proofs.TableLaws.{table-rule, table-count}
-use Rattle.judging.proofs.RuleLaws.{headAt, head-nth, head-count, head-fits, row-fits}
+use Rattle.rules.proofs.RuleLaws.{headAt, head-nth, head-count, head-fits, row-fits}
 use Rattle.judging.proofs.LinkLaws.{link-of, width-is, width-few, mark-there, place-is, place-few}
 use Rattle.rules.proofs.Sources.{bodyPlace, placed-stands, stands-placed, not-placed}
 use Rattle.judging.proofs.EndLaws.{Sane}

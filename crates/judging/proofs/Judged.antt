@@ -6,8 +6,7 @@ use Prim.Native.Nat.{ℕ, zero, suc, _*_, _/_, _%_, _≤_, _<_}
 use native.Mathlib.Decide.{decLt}
 use native.Mathlib.Omega.{arith}
 use lib.Dec.{eqb}
-use lib.ListN.{length, getD, take, replicate, length-replicate, getD-replicate}
-use lib.Seq.{take-all}
+use lib.ListN.{length, getD, replicate, length-replicate, getD-replicate}
 use Rattle.patterns.specs.Outcome.{refused}
 use Rattle.sheet.specs.Write.{sheetHeld}
 use Rattle.chase.specs.Rules.{Rule}
@@ -17,11 +16,8 @@ use Rattle.judging.specs.declared.Figures.{Figures}
 use Rattle.judging.specs.declared.JudgeAnswer.{JudgeAnswer}
 use Rattle.judging.specs.Answer.{judgeSays, verdictOf}
 use Rattle.rules.specs.Table.{SheetHeld, linesIn, rulesIn, rowsIn, tableRules, TableFits}
-use Rattle.rules.specs.Answer.{RulesMeet, rulesSay}
-use Rattle.rules.specs.declared.RulesAnswer.{RulesAnswer}
-use Rattle.rules.specs.declared.RulesAnswer.the-variants.{Rules, LineWrong, TableShort}
 use Rattle.judging.specs.inner.Found.{onesIn, Searched}
-use Rattle.judging.specs.inner.Nodes.{at, back, Grid, Zeros, fromOf, linkOf}
+use Rattle.judging.specs.inner.Nodes.{at, back, Zeros, fromOf, linkOf}
 use Rattle.judging.specs.inner.Links.{Closed, Spreads}
 use Rattle.judging.specs.inner.Written.{Deepest, InTurn}
 use Rattle.judging.specs.inner.Trails.{Lent}
@@ -29,7 +25,7 @@ use Rattle.judging.specs.inner.Facts.{Facts}
 use Rattle.judging.specs.inner.Judged.{Known, SaysEndless, Lines, SaysSettled}
 use Rattle.judging.proofs.CodeLaws.{code-of-shape}
 use Rattle.rules.proofs.SheetLaws.{rules-fit, held-lines}
-use Rattle.judging.proofs.FoundLaws.{zeros, zero-at}
+use Rattle.rules.proofs.PartLaws.{zeros, zero-at}
 use Rattle.rules.proofs.TableLaws.{table-count}
 use Rattle.judging.proofs.FactLaws.{kept-closed, falls, in-line, in-turn, turn-below}
 use Rattle.judging.proofs.Verdicts.{held-lines as sheet-lines, settles-at-once, settles, endless, too-many}
@@ -60,24 +56,6 @@ steps-short numbers before h = (short h, refl)
 pub line-wrong : (numbers before : List ℕ) (line : ℕ) → 20480 ≤ length before → sheetHeld numbers ≡ refused 8 line
     → JudgeMeets shapeLimit numbers before (refuses 8 line) before
 line-wrong numbers before line room e = (wrong line room e, refl)
-
--- ---- what is said of the rules, where all the room is lent
-
-module _ (numbers before now : List ℕ) (size : length before ≡ 16384) (answer : RulesAnswer) (meets : RulesMeet numbers before (rulesSay answer) now) where
-  answers : {other : RulesAnswer} → answer ≡ other → RulesMeet numbers before (rulesSay other) now
-  answers e = subst (λ (a : RulesAnswer). RulesMeet numbers before (rulesSay a) now) e meets
-
-  pub not-short : answer ≡ TableShort → ⊥
-  not-short e = omega (arith, answers e .0)
-
-  pub lines-wrong : (line : ℕ) → answer ≡ LineWrong line → sheetHeld numbers ≡ refused 8 line
-  lines-wrong line e = answers e .1
-
-  pub rules-held : (count : ℕ) → answer ≡ Rules count → SheetHeld numbers × TableFits now count × (tableRules now count ≡ rulesIn numbers)
-  rules-held count e =
-      let held = answers e .1 in
-      let all : take 16384 now ≡ now = take-all 16384 now (omega (arith, held .whole)) in
-      (held .sheet, subst (λ (t : List ℕ). TableFits t count) all (held .fits), ap (λ (t : List ℕ). tableRules t count) (sym all) ∙ held .rules)
 
 -- ---- a sheet whose shapes are all found
 

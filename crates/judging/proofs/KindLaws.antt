@@ -12,7 +12,8 @@ use Rattle.rules.specs.Table.{ruleIn, rowBytes, TableFits}
 use Rattle.judging.specs.inner.Codes.{shapeAt, FiresOn}
 use Rattle.judging.specs.inner.Firing.{kindByte, NextOf, ByKind, Place, NextFire}
 use Rattle.rules.proofs.PartLaws.{set-two, set-first, set-second, length-two}
-use Rattle.judging.proofs.RuleLaws.{rule-kind, row-fits, other-kind}
+use Rattle.rules.proofs.RuleLaws.{rule-kind, row-fits}
+use Rattle.judging.proofs.RuleLaws.{other-kind}
 
 pub kind-low : {table : List ℕ} {rules : ℕ} → TableFits table rules → (r : ℕ) → r < rules → kindByte table r ≤ 64
 kind-low {table} fits r l =

@@ -4,7 +4,6 @@ pub mod CodeLaws
 pub mod Counts
 pub mod EndLaws
 pub mod FactLaws
-pub mod FirstPlaces
 pub mod FoundLaws
 pub mod FreshLaws
 pub mod GraphLaws

@@ -15,7 +15,7 @@ use Rattle.judging.specs.inner.Links.{Begins, Link}
 use Rattle.judging.specs.inner.Passes.{LineBytes, Done, Just, Upto, FreshLink, FieldLink, carriedLink, freshLink, placeOf}
 use Rattle.judging.specs.declared.spread.Raised.{Raised}
 use Rattle.judging.proofs.Places.{element-at}
-use Rattle.judging.proofs.RuleLaws.{headAt, lineMarks, head-below, head-width, head-mark, head-fits, mark-range}
+use Rattle.rules.proofs.RuleLaws.{headAt, lineMarks, head-below, head-width, head-mark, head-fits, mark-range}
 use Rattle.rules.proofs.Sources.{bodyPlace, place-within}
 use Rattle.judging.proofs.PassLaws.{alike}
 

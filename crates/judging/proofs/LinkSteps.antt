@@ -22,7 +22,7 @@ use Rattle.judging.specs.inner.Links.{Link, Begins, carried, new}
 use Rattle.judging.specs.inner.Written.{linkStep}
 use Rattle.judging.proofs.Places.{nth-below}
 use Rattle.rules.proofs.Sources.{bodyPlace, place-within, stands-placed, Source, nothing, first, source-is}
-use Rattle.judging.proofs.FirstPlaces.{code-there}
+use Rattle.rules.proofs.FirstPlaces.{code-there}
 
 module _ (rules : List Rule) (codes : List ℕ) (count : ℕ) (fit : All RuleFits rules) (fits : (k : ℕ) → k < count → ShapeFits (shapeNo codes k))
     (u v code : ℕ) (l : Link rules codes count u v code) where

@@ -24,7 +24,7 @@ use Rattle.judging.specs.inner.Links.{Link, Begins, carried, new}
 use Rattle.judging.proofs.Places.{below, below-in, in-below, nth-below, in-nth}
 use Rattle.judging.proofs.LinkLaws.{link-of}
 use Rattle.rules.proofs.Sources.{bodyPlace, place-within, no-source, carried-source}
-use Rattle.judging.proofs.FirstPlaces.{code-there}
+use Rattle.rules.proofs.FirstPlaces.{code-there}
 
 -- The numbers of n nodes, from node a on.
 abbrev pub numbersFrom : (ℕ → ℕ) → ℕ → ℕ → List ℕ

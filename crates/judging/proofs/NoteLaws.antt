@@ -19,7 +19,7 @@ use Rattle.judging.specs.declared.spread.Raised.{Raised}
 use Rattle.judging.specs.inner.Firing.{NextFire}
 use Rattle.judging.proofs.FoundLaws.{old, room-of}
 use Rattle.judging.proofs.SearchLaws.{Trying, fires-no, Heading, heading-below}
-use Rattle.judging.proofs.RuleLaws.{heads-length, headAt, head-nth, row-fits}
+use Rattle.rules.proofs.RuleLaws.{heads-length, headAt, head-nth, row-fits}
 use Rattle.judging.proofs.PassLaws.{alike}
 use Rattle.judging.proofs.LinkLaws.{line-bytes, line-below}
 

@@ -22,13 +22,14 @@ use Rattle.judging.specs.inner.Codes.{shapeAt, ShapeFits, shapeFrom, Dig
 use Rattle.judging.specs.inner.Firing.{NextFire}
 use Rattle.rules.specs.Table.{ruleIn, rowBytes, tableRules, TableFits}
 use Rattle.judging.specs.inner.Found.{shapeNo, Has, viaRule, Kept, Whole, FiredRules}
-use Rattle.judging.specs.inner.Rows.{Clear, RowsFound}
+use Rattle.rules.specs.inner.Bytes.{Clear}
+use Rattle.judging.specs.inner.Rows.{RowsFound}
 use Rattle.chase.proofs.CountLaws.{element-below}
 use Rattle.chase.proofs.CodedLaws.{derived-coded}
 use Rattle.judging.proofs.CodeLaws.{digits-at, digits-fit}
 use Rattle.judging.proofs.Places.{in-nth, nth-there}
 use Rattle.rules.proofs.TableLaws.{table-rule, table-count}
-use Rattle.judging.proofs.RuleLaws.{heads-length}
+use Rattle.rules.proofs.RuleLaws.{heads-length}
 use Rattle.judging.proofs.FoundLaws.{old, old-shape, new-shape, has-more, has-last, room-of, marked-has, kept-push, more-than, kept-derived}
 
 -- The turn at which H line j of rule m is tried on shape k, all counted from 0.

@@ -4,7 +4,7 @@ ghost use mathlib.Core.Path.{_≡_};
 ghost use Prim.Native.Nat.{ℕ, _≤_, _<_};
 ghost use lib.ListN.{length, getD};
 ghost use Rattle.rules.specs.Table.{rowBytes, BytesFit, TableFits};
-ghost use Rattle.judging.specs.inner.Codes.{Decides};
+ghost use Rattle.rules.specs.inner.Tests.{Decides};
 ghost use Rattle.judging.specs.inner.Passes.{LineBytes};
 ghost use Rattle.judging.specs.inner.Fresh.{HeadFresh, RuleFresh, FreshKinds, FirstWaiting};
 use crate::shape::rule_byte;

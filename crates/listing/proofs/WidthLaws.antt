@@ -16,8 +16,8 @@ use Rattle.sheet.proofs.Sheets.{refusal-passes}
 use Rattle.chase.specs.Lists.{In}
 use Rattle.rules.specs.Table.{SheetHeld, linesIn}
 use Rattle.rules.proofs.SheetLaws.{noLine, lineNo, linesBefore, continues-at, line-fits-at, held-lines, size-held}
-use Rattle.judging.proofs.FoundLaws.{zeros}
-use Rattle.judging.proofs.RowLaws.{Reading, reading-begun, read-kind, read-row, read-other}
+use Rattle.rules.proofs.PartLaws.{zeros}
+use Rattle.rules.proofs.RowLaws.{Reading, reading-begun, read-kind, read-row, read-other}
 use Rattle.listing.specs.inner.Records.{WidthsOf}
 
 letter-some : (l : Line) → wellFormed l ≡ true → l .letter ≡ 0 → ⊥

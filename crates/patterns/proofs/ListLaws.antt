@@ -48,6 +48,13 @@ length-padded zero ns = refl
 length-padded (suc w) [] = ap suc (length-padded w [])
 length-padded (suc w) (n ∷ ns) = ap suc (length-padded w ns)
 
+pub padded-at : (n : ℕ) (p : List ℕ) (i : ℕ) → i < n → getD (padded n p) i 0 ≡ getD p i 0
+padded-at zero p i h = absurd (omega arith)
+padded-at (suc n) [] zero h = refl
+padded-at (suc n) [] (suc i) h = padded-at n [] i (omega arith)
+padded-at (suc n) (d ∷ p) zero h = refl
+padded-at (suc n) (d ∷ p) (suc i) h = padded-at n p i (omega arith)
+
 -- The n numbers from a place on, each by its place.
 abbrev pub upFrom : List ℕ → ℕ → ℕ → List ℕ
 upFrom l at zero = []

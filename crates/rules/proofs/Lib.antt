@@ -5,3 +5,7 @@ pub mod Sources
 pub mod ByteLaws
 pub mod PartLaws
 pub mod TableLaws
+pub mod FirstPlaces
+pub mod RuleLaws
+pub mod RowLaws
+pub mod AnswerLaws

@@ -10,7 +10,7 @@ use native.Mathlib.Decide.{ℕ-discrete, decLt}
 use borrow.Author.Count.{below-more}
 use borrow.Author.Tests.{eq-eqb, ne-eqb}
 use lib.Dec.{eqb}
-use lib.ListN.{length, getD, take, drop, set, length-set, drop-of-length-le, List·getD-eq-default}
+use lib.ListN.{length, getD, take, drop, set, replicate, length-set, drop-of-length-le, List·getD-eq-default}
 use lib.Seq.{drop-cons, take-suc, getD-set-same, getD-set-other}
 use Rattle.chase.specs.Lists.{In, All}
 use Rattle.chase.specs.Rules.{Head, Rule, marksOf}
@@ -77,6 +77,14 @@ part-zeros {before} {size} {after} p h = record { each = λ j l. go j (decLt j s
     go : (j : ℕ) → Dec (j < size) → getD after j 0 ≡ 0
     go j (yes s) = ap (λ (k : ℕ). getD after k 0) (let e : j ≡ 0 + j = omega arith in e) ∙ p .bytes j s
     go j (no s) = List·getD-eq-default after 0 {n = j} (omega arith)
+
+abbrev pub zeros : ℕ → List ℕ
+zeros n = replicate n 0
+
+pub zero-at : (n k : ℕ) → getD (zeros n) k 0 ≡ 0
+zero-at zero k = refl
+zero-at (suc n) zero = refl
+zero-at (suc n) (suc k) = zero-at n k
 
 -- ---- the marks of a line
 

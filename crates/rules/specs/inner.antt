@@ -1,2 +1,4 @@
 -- What inner functions promise each other. No public contract cites this.
 pub mod Bytes
+pub mod Rows
+pub mod Tests

@@ -20,10 +20,11 @@ use Rattle.sheet.proofs.FormLaws.{formed-range}
 use Rattle.chase.specs.Rules.{rowLines}
 use Rattle.chase.specs.Lists.{largest}
 use Rattle.rules.specs.Table.{SheetHeld, linesIn}
-use Rattle.judging.specs.inner.Rows.{Clear, rowNumbers}
+use Rattle.rules.specs.inner.Bytes.{Clear}
+use Rattle.rules.specs.inner.Rows.{rowNumbers}
 use Rattle.rules.proofs.SheetLaws.{noLine, lineNo, linesBefore, LentLine, lent-line, held-lines, size-held, continues-at}
-use Rattle.judging.proofs.FoundLaws.{zeros}
-use Rattle.judging.proofs.RowLaws.{Reading, reading-begun, row-at, read-row}
+use Rattle.rules.proofs.PartLaws.{zeros}
+use Rattle.rules.proofs.RowLaws.{Reading, reading-begun, row-at, read-row}
 use Rattle.carrying.specs.Carrying.{Row, Row-discrete, numbersIn, rowOf, tableRows}
 use Rattle.running.specs.inner.Held.{packed, unpacked, rowsAt, recordsFit, Stored, Grown}
 use Rattle.running.specs.inner.Begun.{RowsIn}

@@ -2,19 +2,18 @@
 use mathlib.Core.Path.{_≡_, refl, sym, _∙_, ap, subst}
 use mathlib.Core.Bool.{false≢true}
 use mathlib.Core.Logic.{_⊎_, inl, inr}
-use mathlib.Core.List.{List, [], _∷_, _++_, map}
-use Prim.Native.Nat.{ℕ, zero, suc, _+_, _*_, _≤_, _<_}
+use mathlib.Core.List.{List, _++_, map}
+use Prim.Native.Nat.{ℕ, _+_, _*_, _≤_}
 use native.Mathlib.Omega.{arith}
 use lib.ListN.{length, take, drop}
-use Rattle.patterns.specs.Outcome.{Outcome, good, refused}
+use Rattle.patterns.specs.Outcome.{good, refused}
 use Rattle.sheet.specs.Line.{Line, lentOf}
 use Rattle.sheet.specs.Write.{sheetHeld}
 use Rattle.chase.specs.Rules.{rulesOf}
 use Rattle.chase.specs.Run.{Reachable, rowsOf}
-use Rattle.chase.specs.Counting.{Count, MoreThan}
+use Rattle.chase.specs.Counting.{MoreThan}
 use Rattle.chase.specs.Judge as Judge
-use Rattle.chase.specs.Judge.{Verdict, judged, Bounded, Unbounded, shapeLimit, Right, SettlesAtOnce, Settles, Endless}
-use Rattle.chase.specs.Judge.{JudgeMeets}
+use Rattle.chase.specs.Judge.{Verdict, judged, shapeLimit, Right, SettlesAtOnce, Settles, Endless, JudgeMeets}
 use Rattle.judging.specs.Answer.{verdictOf, judgeSays, judgeRefusalNumber, judgeRefusalLine}
 use Rattle.judging.specs.declared.Figures.{Figures}
 use Rattle.judging.specs.declared.JudgeRefusal.{JudgeRefusal}
@@ -23,7 +22,7 @@ use Rattle.judging.specs.declared.JudgeAnswer.the-variants.{Settles as JudgeSet
 use Rattle.carrying.specs.Carrying.{Row}
 use Rattle.carrying.specs.Contract.{recordLimit, recordRoom, rowLine, run, Taken, CarriedOut, Refuses, short, wrong, manyShapes, endless, manyRecords, largeNumber}
 use Rattle.carrying.proofs.ContractLaws.{one-sheet}
-use Rattle.running.specs.Held.{rowsAt, recordsFit, Holds}
+use Rattle.running.specs.Held.{rowsAt, recordsFit}
 use Rattle.running.specs.Run.{Ended, Passes, Outgrows, RunMeets}
 use Rattle.running.specs.Answer.{runSays, carryRefusalNumber, carryRefusalLine}
 use Rattle.running.specs.declared.Totals.{Totals}

@@ -2,19 +2,15 @@
 use mathlib.Core.Path.{_≡_, refl, sym, _∙_, ap, subst}
 use mathlib.Core.List.{List, [], _∷_, _++_}
 use Prim.Native.Nat.{ℕ, suc, _+_, _-_, _*_, _≤_, _<_}
-use native.Mathlib.Decide.{ℕ-discrete, decLt}
 use native.Mathlib.Numerals.{add-one}
 use native.Mathlib.Omega.{arith}
-use borrow.Author.Count.{below-more}
-use lib.ListN.{length, getD, set, length-set, List·getD-eq-default}
-use lib.Seq.{getD-set-same, getD-set-other}
+use lib.ListN.{length}
 use Rattle.patterns.specs.Pattern.{pick, add, addAll}
 use Rattle.patterns.proofs.PatternLaws.{pick-yes, pick-no}
 use Rattle.chase.specs.Rules.{Rule}
 use Rattle.rules.specs.Table.{TableFits}
-use Rattle.rules.specs.inner.Bytes.{Part}
+use Rattle.rules.specs.inner.Bytes.{Part, Clear}
 use Rattle.rules.proofs.PartLaws.{part-zeros}
-use Rattle.judging.specs.inner.Rows.{Clear}
 use Rattle.carrying.specs.Carrying.{Row, Pair, Pair-discrete, FiresOn, firesOn?, pairOf}
 use Rattle.carrying.specs.inner.Keys.{pairsOn, firingsOn}
 use Rattle.running.specs.inner.Chains.{Chains, FoundAt}

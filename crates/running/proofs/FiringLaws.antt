@@ -14,7 +14,7 @@ use lib.ListN.{length, getD, take, drop, set, getElem?, length-append, length-ma
 use lib.Seq.{ext-getD, take-suc, take-all}
 use Rattle.patterns.specs.Outcome.{padded}
 use Rattle.patterns.specs.Pattern.{pick, add, addAll, index}
-use Rattle.patterns.proofs.ListLaws.{length-padded}
+use Rattle.patterns.proofs.ListLaws.{length-padded, padded-at}
 use Rattle.sheet.specs.Sheet.{topMark, marksFrom}
 use Rattle.chase.specs.Lists.{In, All}
 use Rattle.chase.specs.Rules.{Head, Rule, marksOf, nth}
@@ -23,10 +23,9 @@ use Rattle.chase.proofs.MakingLaws.{agree-length, in-marksOf}
 use Rattle.chase.proofs.StepLaws.{element-in}
 use Rattle.rules.specs.Table.{ruleIn, rowBytes, TableFits, BytesFit, MarksFit, firstPlace, later}
 use Rattle.rules.specs.inner.Bytes.{Part}
-use Rattle.judging.proofs.CodeLaws.{padded-at}
-use Rattle.judging.proofs.RuleLaws.{RowFits, row-fits, rule-kind, Width, Mark, head-nth, head-fits, head-count}
+use Rattle.rules.proofs.RuleLaws.{RowFits, row-fits, rule-kind, Width, Mark, head-nth, head-fits, head-count}
 use Rattle.rules.proofs.Sources.{first-within, first-there}
-use Rattle.judging.proofs.FirstPlaces.{map-at, atPlace, value-first, firstField, agree-at, at-agree}
+use Rattle.rules.proofs.FirstPlaces.{map-at, atPlace, value-first, firstField, agree-at, at-agree}
 use Rattle.carrying.specs.Carrying.{Row, Row-discrete, FiresOn, freshMarks, numberOf, rowMade}
 use Rattle.carrying.proofs.MarkLaws.{in-fresh}
 use Rattle.carrying.proofs.SheetMarks.{fresh-above, fresh-place}

@@ -13,7 +13,7 @@ use lib.Seq.{take-suc, take-all, getD-drop, getD-set-same, getD-set-other}
 use Rattle.sheet.specs.Sheet.{topMark, marksFrom}
 use Rattle.chase.specs.Rules.{Head, Rule, marksOf}
 use Rattle.rules.specs.Table.{ruleIn, TableFits}
-use Rattle.judging.proofs.RuleLaws.{RowFits, head-nth, heads-length}
+use Rattle.rules.proofs.RuleLaws.{RowFits, head-nth, heads-length}
 use Rattle.carrying.specs.Carrying.{freshMarks}
 use Rattle.carrying.proofs.SheetMarks.{top-is, fresh-length}
 use Rattle.running.specs.inner.Firing.{ruleAt, headNo}

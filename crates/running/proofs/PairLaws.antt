@@ -18,8 +18,8 @@ use Rattle.chase.specs.Making.{valueOf, Agree, carriedMarks, carriedValues, pre
 use Rattle.chase.proofs.MakingLaws.{agree-length, agree-has-value, carried-in}
 use Rattle.rules.specs.Table.{ruleIn, rowBytes, TableFits, sourceAt, firstPlace}
 use Rattle.rules.proofs.Sources.{Source, nothing, first, source-is, carried-source, first-at, first-within}
-use Rattle.judging.proofs.FirstPlaces.{atPlace, value-first}
-use Rattle.judging.proofs.RuleLaws.{RowFits, row-fits}
+use Rattle.rules.proofs.FirstPlaces.{atPlace, value-first}
+use Rattle.rules.proofs.RuleLaws.{RowFits, row-fits}
 use Rattle.carrying.specs.Carrying.{Row, Pair, FiresOn, pairOf}
 use Rattle.chase.proofs.ListLaws.{map-same}
 use Rattle.running.specs.inner.Chains.{mixed, bucketIn, Chains, FoundAt}

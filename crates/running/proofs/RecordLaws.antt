@@ -1,9 +1,9 @@
 -- Records that are held: found, added. Assumes nothing.
 use mathlib.Core.Path.{_≡_, refl, sym, _∙_, ap, subst}
 use mathlib.Core.Logic.{_⊎_, inl, inr}
-use mathlib.Core.List.{List, [], _∷_, _++_, append-assoc}
-use Prim.Native.Nat.{ℕ, zero, suc, _+_, _-_, _*_, _/_, _%_, _≤_, _<_}
-use native.Mathlib.Decide.{ℕ-discrete, decLt, decLe}
+use mathlib.Core.List.{List, [], _∷_, _++_}
+use Prim.Native.Nat.{ℕ, zero, suc, _+_, _-_, _*_, _≤_, _<_}
+use native.Mathlib.Decide.{ℕ-discrete}
 use native.Mathlib.Numerals.{add-one}
 use native.Mathlib.Omega.{arith}
 use lib.ListN.{length, getD, take, drop, set, length-append, length-set, length-take, length-drop, List·getD-append}
@@ -16,9 +16,9 @@ use Rattle.sheet.proofs.FormLaws.{take-padded}
 use Rattle.chase.specs.Lists.{In}
 use Rattle.rules.specs.inner.Bytes.{Part}
 use Rattle.carrying.specs.Carrying.{Row, Row-discrete}
-use Rattle.running.specs.inner.Chains.{room, bucketOf, Chains, FoundAt}
+use Rattle.running.specs.inner.Chains.{room, bucketOf, Chains}
 use Rattle.running.proofs.ChainLaws.{chains-push, chains-alike}
-use Rattle.running.specs.inner.Held.{codeOf, packed, unpacked, PackedRow, rowAt, bucketAt, rowsAt, section, recordsFit, Stored, Grown}
+use Rattle.running.specs.inner.Held.{packed, unpacked, PackedRow, rowAt, bucketAt, rowsAt, section, Stored, Grown}
 
 -- ---- lists
 
@@ -62,19 +62,30 @@ packed-unpacked {row} p = ap packed (unpacked-of p) ∙ sym (p .is)
 pub packed-row : (w : Row) → length (w .numbers) ≤ 6 → PackedRow (packed w)
 packed-row w h = record { of = w; is = refl; narrow = h }
 
+-- So many numbers from a place on, one by one.
+module _ (n at : ℕ) where
+  window-cell : (l : List ℕ) (k : ℕ) → k < n → getD (take n (drop at l)) k 0 ≡ getD l (at + k) 0
+  window-cell l k h = getD-take n (drop at l) k 0 h ∙ getD-drop at l k 0
+
+  window-length : (l : List ℕ) → at + n ≤ length l → length (take n (drop at l)) ≡ n
+  window-length l h = omega (arith, length-take n (drop at l), length-drop at l)
+
+  window-same : (a b : List ℕ) → at + n ≤ length a → at + n ≤ length b → ((k : ℕ) → k < n → getD a (at + k) 0 ≡ getD b (at + k) 0)
+      → take n (drop at a) ≡ take n (drop at b)
+  window-same a b p q e =
+      let m = window-length a p in
+      ext-getD 0 (take n (drop at a)) (take n (drop at b)) (m ∙ sym (window-length b q))
+      (λ k h. let s : k < n = omega arith in window-cell a k s ∙ e k s ∙ sym (window-cell b k s))
+
 pub rowAt-cell : (numbers : List ℕ) (i k : ℕ) → k < 7 → getD (rowAt numbers i) k 0 ≡ getD numbers (7 * i + k) 0
-rowAt-cell numbers i k h = getD-take 7 (drop (7 * i) numbers) k 0 h ∙ getD-drop (7 * i) numbers k 0
+rowAt-cell numbers i = window-cell 7 (7 * i) numbers
 
 pub rowAt-length : (numbers : List ℕ) (i : ℕ) → 7 * i + 7 ≤ length numbers → length (rowAt numbers i) ≡ 7
-rowAt-length numbers i h = omega (arith, length-take 7 (drop (7 * i) numbers), length-drop (7 * i) numbers)
+rowAt-length numbers i = window-length 7 (7 * i) numbers
 
 pub rowAt-same : (a b : List ℕ) (i : ℕ) → 7 * i + 7 ≤ length a → 7 * i + 7 ≤ length b
     → ((k : ℕ) → k < 7 → getD a (7 * i + k) 0 ≡ getD b (7 * i + k) 0) → rowAt a i ≡ rowAt b i
-rowAt-same a b i p q e =
-    let m = rowAt-length a i p in
-    let n = rowAt-length b i q in
-    ext-getD 0 (rowAt a i) (rowAt b i) (m ∙ sym n)
-    (λ k h. let s : k < 7 = omega arith in rowAt-cell a i k s ∙ e k s ∙ sym (rowAt-cell b i k s))
+rowAt-same a b i = window-same 7 (7 * i) a b
 
 -- Rows compared number by number.
 module _ (numbers : List ℕ) (i : ℕ) (row : List ℕ) (fits : 7 * i + 7 ≤ length numbers) where
@@ -150,18 +161,14 @@ rowsAt-no numbers (suc n) i h = go (ℕ-discrete i n) (λ l. rowsAt-no numbers n
 -- ---- sections of the index
 
 pub section-cell : (c : ℕ) (index : List ℕ) (i : ℕ) → i < 4096 → getD (section c index) i 0 ≡ getD index (4096 * c + i) 0
-section-cell c index i h = getD-take 4096 (drop (4096 * c) index) i 0 h ∙ getD-drop (4096 * c) index i 0
+section-cell c index = window-cell 4096 (4096 * c) index
 
 pub section-length : (c : ℕ) (index : List ℕ) → 4096 * c + 4096 ≤ length index → length (section c index) ≡ 4096
-section-length c index h = omega (arith, length-take 4096 (drop (4096 * c) index), length-drop (4096 * c) index)
+section-length c index = window-length 4096 (4096 * c) index
 
 pub section-same : (c : ℕ) (a b : List ℕ) → 4096 * c + 4096 ≤ length a → 4096 * c + 4096 ≤ length b
     → ((i : ℕ) → i < 4096 → getD a (4096 * c + i) 0 ≡ getD b (4096 * c + i) 0) → section c a ≡ section c b
-section-same c a b p q e =
-    let m = section-length c a p in
-    let n = section-length c b q in
-    ext-getD 0 (section c a) (section c b) (m ∙ sym n)
-    (λ k h. let s : k < 4096 = omega arith in section-cell c a k s ∙ e k s ∙ sym (section-cell c b k s))
+section-same c a b = window-same 4096 (4096 * c) a b
 
 pub section-set : (c : ℕ) (index : List ℕ) (i v : ℕ) → i < 4096 → 4096 * c + 4096 ≤ length index → section c (set index (4096 * c + i) v) ≡ set (section c index) i v
 section-set c index i v h room =

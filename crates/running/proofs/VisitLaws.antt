@@ -15,7 +15,7 @@ use Rattle.chase.specs.Lists.{In, in?}
 use Rattle.chase.specs.Rules.{Rule}
 use Rattle.chase.specs.Making.{carriedValues}
 use Rattle.rules.specs.Table.{rowBytes, ruleIn, TableFits}
-use Rattle.judging.proofs.RuleLaws.{RowFits, row-fits}
+use Rattle.rules.proofs.RuleLaws.{RowFits, row-fits}
 use Rattle.carrying.specs.Carrying.{Row, Row-discrete, Pair, Pair-discrete, State, FiresOn, firesOn?, freshMarks, pairOf, fired}
 use Rattle.carrying.proofs.ListLaws.{begins-addAll, begins-length}
 use Rattle.running.specs.inner.Chains.{Chains, FoundAt}
@@ -401,6 +401,21 @@ module _ {table numbers index : List ℕ} {rules : ℕ} {c : Counts} (run : Runn
   left-idle idle =
       left-as run r i keyedRule (sym (pick-no keyedOn (stateAt table numbers index c) (firesOn? (ruleAt table r) (rowNo numbers i)) idle))
 
+-- What is left after both.
+pub left-then : {table numbers : List ℕ} {rules : ℕ} {first : Counts} {numbers' index' : List ℕ} {c : Counts} {s : State} → Left table numbers rules first numbers' index' c s
+    → {numbers'' index'' : List ℕ} {d : Counts} {t u : State} → Left table numbers' rules c numbers'' index'' d t → t ≡ u → Left table numbers rules first numbers'' index'' d u
+left-then l m e =
+    record {
+      room = m .room ∙ l .room;
+      size = m .size;
+      mixing = m .mixing ∙ l .mixing;
+      more = omega (arith, m .more, l .more);
+      running = m .running;
+      state = λ h. m .state h ∙ e;
+      over = λ h. subst Over e (m .over h);
+      same = λ j h. m .same j (omega (arith, l .more)) ∙ l .same j h;
+    }
+
 -- ---- all rules
 
 -- What is too much stays so.
@@ -482,17 +497,7 @@ module _ {keep : ℕ → ℕ} {table numbers : List ℕ} {rules : ℕ} {first : 
     next-is = λ k. keptRule (keep r) (suc r) (ruleAt table r) (same-here k) (g .left .state (g .few) k)
 
     left-next : Left table numbers rules first numbers'' index'' d (keptRule (keep r) (suc r) (ruleAt table r) w (g .now))
-    left-next =
-        record {
-          room = l .room ∙ g .left .room;
-          size = l .size;
-          mixing = l .mixing ∙ g .left .mixing;
-          more = omega (arith, l .more, g .left .more);
-          running = l .running;
-          state = λ h. l .state h ∙ next-is;
-          over = λ h. subst Over next-is (l .over h);
-          same = λ j h. l .same j (omega (arith, g .left .more)) ∙ g .left .same j h;
-        }
+    left-next = left-then (g .left) l next-is
 
     pub going-more : d .rows ≤ 4096 → Going keep table numbers rules first w last numbers'' index'' d (r + 1)
     going-more h = record { within = omega arith; few = h; now = keptRule (keep r) (suc r) (ruleAt table r) w (g .now); left = left-next; rest = rest-here }
@@ -557,17 +562,7 @@ module _ {fresh table numbers : List ℕ} {rules : ℕ} {first : Counts} {begin 
       ∙ ap (keptAfter (keepIn fresh) (rulesFrom table 0 rules) begin) (sym (add-one i))
 
   visit-left : Left table numbers rules first numbers'' index'' d (keptAfter (keepIn fresh) (rulesFrom table 0 rules) begin (i + 1))
-  visit-left =
-      record {
-        room = l .room ∙ v .left .room;
-        size = l .size;
-        mixing = l .mixing ∙ v .left .mixing;
-        more = omega (arith, l .more, v .left .more);
-        running = l .running;
-        state = λ h. l .state h ∙ visit-is;
-        over = λ h. subst Over visit-is (l .over h);
-        same = λ j h. l .same j (omega (arith, v .left .more)) ∙ v .left .same j h;
-      }
+  visit-left = left-then (v .left) l visit-is
 
   pub visiting-more : d .rows ≤ 4096 → Visiting fresh table numbers rules first begin numbers'' index'' d (i + 1)
   visiting-more h = record { few = h; left = visit-left }

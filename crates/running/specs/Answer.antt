@@ -2,7 +2,6 @@
 use Prim.Native.Nat.{ℕ}
 use Rattle.carrying.specs.Contract.{Carried, carried, refuses}
 use Rattle.running.specs.Run.{Ran, ended, recordsOver, numberOver, lineWrong, roomWrong}
-use Rattle.running.specs.declared.Totals.{Totals}
 use Rattle.running.specs.declared.CarryRefusal.{CarryRefusal}
 use Rattle.running.specs.declared.CarryRefusal.the-variants.{RecordsShort, LineWrong, ShapesOver, Endless, RecordsOver, NumberOver}
 use Rattle.running.specs.declared.CarryAnswer.{CarryAnswer}

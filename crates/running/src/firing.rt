@@ -3,7 +3,7 @@ ghost use mathlib.Core.Path.{_≡_};
 ghost use Prim.Native.Nat.{ℕ, _+_, _-_, _*_, _<_, _≤_};
 ghost use lib.ListN.{length, getD};
 ghost use Rattle.rules.specs.Table.{TableFits, rowBytes, firstPlace};
-ghost use Rattle.judging.specs.inner.Codes.{Decides};
+ghost use Rattle.rules.specs.inner.Tests.{Decides};
 ghost use Rattle.carrying.specs.Carrying.{FiresOn, rowMade};
 ghost use Rattle.running.specs.inner.Held.{packed, PackedRow, rowAt, rowsAt, Stored, Grown};
 ghost use Rattle.running.specs.inner.Firing.{ruleAt, headNo, rowNo, RecordIn, Ready, valueFrom, withMade};

@@ -2,7 +2,7 @@
 ghost use mathlib.Core.Path.{_≡_};
 ghost use mathlib.Core.List.{[]};
 ghost use Prim.Native.Nat.{suc, _+_, _≤_, _<_};
-ghost use lib.ListN.{length, getD};
+ghost use lib.ListN.{length};
 ghost use Rattle.patterns.specs.Pattern.{addAll};
 ghost use Rattle.rules.specs.Table.{TableFits};
 ghost use Rattle.carrying.specs.Carrying.{Pair-discrete};

@@ -5,7 +5,7 @@ ghost use Prim.Native.Nat.{ℕ, _+_, _-_, _*_, _<_, _≤_};
 ghost use lib.Dec.{eqb};
 ghost use lib.ListN.{length, getD, set};
 ghost use Rattle.rules.specs.Table.{TableFits};
-ghost use Rattle.judging.specs.inner.Codes.{Decides};
+ghost use Rattle.rules.specs.inner.Tests.{Decides};
 ghost use Rattle.running.specs.inner.Chains.{mixed, FoundAt};
 ghost use Rattle.running.specs.inner.Held.{rowAt, Stored};
 ghost use Rattle.running.specs.inner.Firing.{ruleAt, RecordIn};

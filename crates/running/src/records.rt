@@ -7,7 +7,7 @@ ghost use lib.ListN.{length, getD, set};
 ghost use Rattle.patterns.specs.Pattern.{add as addTo};
 ghost use Rattle.carrying.specs.Carrying.{Row-discrete};
 ghost use Rattle.rules.specs.inner.Bytes.{Part};
-ghost use Rattle.judging.specs.inner.Codes.{Decides};
+ghost use Rattle.rules.specs.inner.Tests.{Decides};
 ghost use Rattle.running.specs.inner.Chains.{bucketOf, FoundAt};
 ghost use Rattle.running.specs.inner.Held.{recordsFit, rowAt, unpacked, PackedRow, rowsAt, Stored, Grown};
 use crate::hash::mix;

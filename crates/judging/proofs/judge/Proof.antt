@@ -3,7 +3,8 @@ use mathlib.Core.Path.{_≡_}
 use Prim.Native.Nat.{ℕ}
 use borrow.Author.Needs.{needs}
 use lib.ListN.{length, replicate, length-replicate}
-use Rattle.judging.proofs.Judged.{steps-short, line-wrong, not-short, lines-wrong, rules-held}
+use Rattle.rules.proofs.AnswerLaws.{not-short, lines-wrong, rules-held}
+use Rattle.judging.proofs.Judged.{steps-short, line-wrong}
 use Rattle.judging.proofs.judge.Statement.{statement}
 use Rattle.judging.proofs.judge.Tie as tie
 

@@ -1,6 +1,6 @@
 -- Shapes as numbers. Assumes nothing.
 use mathlib.Core.Path.{_≡_}
-use mathlib.Core.Bool.{Bool, true, false}
+use mathlib.Core.Bool.{Bool}
 use mathlib.Core.List.{List, [], map}
 use Prim.Native.Nat.{ℕ, zero, suc, _+_, _-_, _*_, _/_, _%_, _≤_, _<_}
 use native.Mathlib.Decide.{ℕ-discrete}
@@ -13,6 +13,7 @@ use Rattle.chase.specs.Simplification.{Applies}
 use Rattle.chase.specs.Shape.{Shape}
 pub use Rattle.chase.specs.inner.Digits.{shapeFrom}
 use Rattle.rules.specs.Table.{KindFits, firstPlace}
+use Rattle.rules.specs.inner.Tests.{Decides}
 
 -- The shape that a number stands for.
 unfoldable pub shapeAt : ℕ → Shape
@@ -39,11 +40,6 @@ pub record CodeIs (kind : ℕ) (pattern-is : List ℕ) (code : ℕ) : Type 0 whe
 pub record DigitsFit (digits : List ℕ) : Type 0 where
   pub size : length digits ≡ 6
   pub small : (i : ℕ) → getD digits i 0 ≤ 6
-
--- The answer of a test.
-abbrev pub Decides : Type 0 → Bool → Type 0
-Decides P true = P
-Decides P false = P → ⊥
 
 -- Whether a rule fires on a record of a kind and of digits in six places: for every shape that has them.
 pub record FiresOn (r : Rule) (kind : ℕ) (digits : List ℕ) (answer : Bool) : Type 0 where

@@ -5,7 +5,7 @@ use borrow.Author.Needs.{needs}
 use denote.Ref.{now}
 use lib.ListN.{length, getD}
 use Rattle.rules.specs.Table.{SheetHeld}
-use Rattle.judging.proofs.RowLaws.{whole-line, kind-low}
+use Rattle.rules.proofs.RowLaws.{whole-line, kind-low}
 use Rattle.listing.proofs.WidthLaws.{Widening, widening-begun, widening-kind, widening-other, widening-done}
 use Rattle.listing.proofs.kind_widths.Statement.{statement}
 use Rattle.listing.proofs.kind_widths.Tie as tie

@@ -75,6 +75,11 @@ byteOf r i =
 pub record Blank (table : List ℕ) (from : ℕ) : Type 0 where
   pub each : (j : ℕ) → from ≤ j → getD table j 0 ≡ 0
 
+-- n zeros.
+pub record Clear (xs : List ℕ) (n : ℕ) : Type 0 where
+  pub size : length xs ≡ n
+  pub zeros : (k : ℕ) → getD xs k 0 ≡ 0
+
 -- So many bytes from a place on are put; the others stay.
 pub record Part (before : List ℕ) (at size : ℕ) (byte : ℕ → ℕ) (after : List ℕ) : Type 0 where
   pub whole : length after ≡ length before

@@ -6,7 +6,7 @@ use native.Mathlib.Omega.{arith}
 use borrow.Author.Needs.{needs}
 use lib.ListN.{length, getD, length-set, length-replicate}
 use lib.Seq.{getD-set-other}
-use Rattle.judging.proofs.FoundLaws.{zero-at}
+use Rattle.rules.proofs.PartLaws.{zero-at}
 use Rattle.judging.proofs.OrderLaws.{marked, Walk, walk-none, depth-left, unmarked-few, more, deeper, entered, enter, shelve, leave, is-marked, pass, settle, ordered, walk-is}
 use Rattle.judging.proofs.order.walked.Statement.{statement}
 use Rattle.judging.proofs.order.walked.Tie as tie

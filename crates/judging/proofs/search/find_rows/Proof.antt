@@ -6,7 +6,8 @@ use borrow.Author.Needs.{needs}
 use lib.ListN.{length}
 use Rattle.rules.specs.Table.{rulesIn, rowsIn}
 use Rattle.judging.specs.inner.Rows.{RowsFound}
-use Rattle.judging.proofs.RowLaws.{Reading, reading-begun, rows-begun, whole-line, kind-low, read-kind, read-row, read-other, row-at, read-all, tried-all}
+use Rattle.rules.proofs.RowLaws.{Reading, reading-begun, whole-line, kind-low, read-kind, read-row, read-other, row-at, read-all}
+use Rattle.judging.proofs.RowLaws.{rows-begun, tried-all}
 use Rattle.judging.proofs.search.find_rows.Statement.{statement}
 use Rattle.judging.proofs.search.find_rows.Tie as tie
 

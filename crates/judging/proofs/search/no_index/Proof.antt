@@ -1,6 +1,6 @@
 -- `judging::search::no_index` meets its contract. Assumes nothing.
 use mathlib.Core.Path.{refl}
-use Rattle.judging.proofs.FoundLaws.{zero-at}
+use Rattle.rules.proofs.PartLaws.{zero-at}
 use Rattle.judging.proofs.search.no_index.Statement.{statement}
 use Rattle.judging.proofs.search.no_index.Tie as tie
 

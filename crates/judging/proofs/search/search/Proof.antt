@@ -11,7 +11,7 @@ use Rattle.patterns.specs.Pattern.{digitsOf, patternTable, digitsIn}
 use Rattle.patterns.proofs.PatternRows.{table-rows}
 use Rattle.rules.specs.Table.{ruleIn, rowBytes, rulesIn, rowsIn}
 use Rattle.judging.specs.inner.Codes.{FiresOn}
-use Rattle.judging.proofs.FoundLaws.{zeros, zero-at}
+use Rattle.rules.proofs.PartLaws.{zeros, zero-at}
 use Rattle.judging.proofs.KindLaws.{first-place, fired-place, fire-from}
 use Rattle.judging.proofs.SearchLaws.{turn, Doing, Ruled, Ruling, Heading, doing-begun, ruling-first, ruling-fires, ruling-next, ruling-last, heading-last, heading-same, heading-below, heading-four, heading-seen, heading-push, heading-more, try-all}
 use Rattle.judging.proofs.NoteLaws.{Noting, noting-begun, noting-seen, noting-new, noting-rule, noting-next, noting-shape, noting-all, noting-room, new-there, seen-there}

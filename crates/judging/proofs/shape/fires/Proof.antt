@@ -6,8 +6,9 @@ use native.Mathlib.Omega.{arith}
 use borrow.Author.Needs.{needs}
 use lib.ListN.{length, getD}
 use Rattle.rules.specs.Table.{ruleIn, rowBytes}
-use Rattle.judging.proofs.FirstPlaces.{firstField}
-use Rattle.judging.proofs.RuleLaws.{RowFits, row-fits, Width, Mark, width-read, mark-read, place-few, place-some, place-field, SameTo, same-none, same-more, other-kind, fewer-fields, more-fields, unequal-fields, equal-fields}
+use Rattle.rules.proofs.FirstPlaces.{firstField}
+use Rattle.rules.proofs.RuleLaws.{RowFits, row-fits, Width, Mark, width-read, mark-read, place-few, place-some, place-field}
+use Rattle.judging.proofs.RuleLaws.{SameTo, same-none, same-more, other-kind, fewer-fields, more-fields, unequal-fields, equal-fields}
 use Rattle.judging.proofs.shape.fires.Statement.{statement}
 use Rattle.judging.proofs.shape.fires.Tie as tie
 

@@ -8,7 +8,8 @@ use lib.ListN.{length, take, length-take}
 use Rattle.patterns.specs.Pattern.{pattern}
 use Rattle.rules.specs.Table.{ruleIn, rowBytes}
 use Rattle.judging.specs.inner.Codes.{CodeIs, madeNumber}
-use Rattle.judging.proofs.RuleLaws.{RowFits, row-fits, headAt, head-below, head-fits, Width, Mark, head-width-read, head-mark-read, Filled, filled-none, filled-more, filled-all, made-of}
+use Rattle.rules.proofs.RuleLaws.{RowFits, row-fits, headAt, head-below, head-fits, Width, Mark, head-width-read, head-mark-read}
+use Rattle.judging.proofs.RuleLaws.{Filled, filled-none, filled-more, filled-all, made-of}
 use Rattle.judging.proofs.shape.made.Statement.{statement}
 use Rattle.judging.proofs.shape.made.Tie as tie
 

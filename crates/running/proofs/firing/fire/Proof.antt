@@ -6,7 +6,7 @@ use native.Mathlib.Omega.{arith}
 use borrow.Author.Needs.{needs}
 use lib.ListN.{length, getD}
 use Rattle.rules.specs.Table.{rowBytes}
-use Rattle.judging.proofs.RuleLaws.{head-count}
+use Rattle.rules.proofs.RuleLaws.{head-count}
 use Rattle.carrying.specs.Carrying.{FiresOn, rowMade}
 use Rattle.running.specs.inner.Held.{unpacked, rowsAt, Grown}
 use Rattle.running.specs.inner.Firing.{ruleAt, rowNo, headNo, RecordIn, withMade}

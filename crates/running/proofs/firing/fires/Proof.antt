@@ -5,8 +5,8 @@ use native.Mathlib.Omega.{arith}
 use borrow.Author.Needs.{needs}
 use lib.ListN.{length, getD}
 use Rattle.rules.specs.Table.{rowBytes}
-use Rattle.judging.proofs.RuleLaws.{RowFits, row-fits, Width, Mark, width-read, mark-read, place-few, place-some, place-field}
-use Rattle.judging.proofs.FirstPlaces.{firstField}
+use Rattle.rules.proofs.RuleLaws.{RowFits, row-fits, Width, Mark, width-read, mark-read, place-few, place-some, place-field}
+use Rattle.rules.proofs.FirstPlaces.{firstField}
 use Rattle.running.specs.inner.Held.{codeOf, rowAt}
 use Rattle.running.specs.inner.Firing.{ruleAt}
 use Rattle.running.proofs.FiringLaws.{Equal, equal-more, other-code, unequal, equal}

@@ -8,7 +8,7 @@ use Rattle.chase.specs.Lists.{In}
 use Rattle.rules.specs.Table.{rowBytes}
 use Rattle.rules.specs.inner.Bytes.{Part}
 use Rattle.rules.proofs.PartLaws.{part-more}
-use Rattle.judging.proofs.RuleLaws.{RowFits, Width, Mark, head-width-read, head-mark-read, head-below}
+use Rattle.rules.proofs.RuleLaws.{RowFits, Width, Mark, head-width-read, head-mark-read, head-below}
 use Rattle.carrying.specs.Carrying.{rowMade}
 use Rattle.running.specs.inner.Held.{codeOf}
 use Rattle.running.specs.inner.Firing.{ruleAt, rowNo, headNo}

@@ -4,7 +4,7 @@ use Prim.Native.Nat.{_+_, _-_, _<_, _≤_}
 use native.Mathlib.Omega.{arith}
 use borrow.Author.Needs.{needs}
 use Rattle.rules.specs.Table.{rowBytes, firstPlace}
-use Rattle.judging.proofs.RuleLaws.{RowFits, row-fits, place-read, place-few}
+use Rattle.rules.proofs.RuleLaws.{RowFits, row-fits, place-read, place-few}
 use Rattle.running.specs.inner.Held.{rowAt}
 use Rattle.running.specs.inner.Firing.{ruleAt, valueFrom}
 use Rattle.running.proofs.FiringLaws.{value-place}

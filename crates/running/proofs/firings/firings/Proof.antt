@@ -1,6 +1,6 @@
 -- `firings` meets its contract: the pairs of one rule are counted after those of the other. Assumes nothing.
 use mathlib.Core.Path.{sym, _∙_}
-use Prim.Native.Nat.{_+_, _-_, _*_, _<_, _≤_}
+use Prim.Native.Nat.{_-_}
 use native.Mathlib.Omega.{arith}
 use borrow.Author.Needs.{needs}
 use Rattle.running.proofs.CountLaws.{no-pairs, stored-forgotten, Totalling, totalling-begun, totalling-more, totalling-done}

@@ -4,7 +4,7 @@ use mathlib.Core.Logic.{⊎-elim}
 use Prim.Native.Nat.{_+_, _-_, _<_, _≤_}
 use native.Mathlib.Omega.{arith}
 use borrow.Author.Needs.{needs}
-use Rattle.judging.specs.inner.Codes.{Decides}
+use Rattle.rules.specs.inner.Tests.{Decides}
 use Rattle.carrying.specs.Carrying.{FiresOn}
 use Rattle.running.specs.inner.Firing.{ruleAt, rowNo}
 use Rattle.running.proofs.CountLaws.{Counting, counting-begun, counting-record, counting-idle, counting-records, counting-bucket, counting-room, counting-there, counting-new, counting-as, counting-done}

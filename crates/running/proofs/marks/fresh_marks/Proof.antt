@@ -6,7 +6,7 @@ use borrow.Author.Needs.{needs}
 use lib.ListN.{length-replicate}
 use Rattle.chase.specs.Rules.{marksOf}
 use Rattle.rules.specs.Table.{rowBytes}
-use Rattle.judging.proofs.RuleLaws.{row-fits, width-read, rule-kind}
+use Rattle.rules.proofs.RuleLaws.{row-fits, width-read, rule-kind}
 use Rattle.running.specs.inner.Firing.{ruleAt}
 use Rattle.running.proofs.MarkLaws.{PreparedTo, prepared-none, prepared-more, prepared-all, lowOf, topOf, all-most, top-from, low-read, top-read, keeping-all}
 use Rattle.running.proofs.marks.fresh_marks.Statement.{statement}

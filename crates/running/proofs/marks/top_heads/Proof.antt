@@ -5,7 +5,7 @@ use native.Mathlib.Omega.{arith}
 use borrow.Author.Needs.{needs}
 use lib.ListN.{getD}
 use Rattle.rules.specs.Table.{rowBytes}
-use Rattle.judging.proofs.RuleLaws.{RowFits, row-fits, head-below, head-width-read}
+use Rattle.rules.proofs.RuleLaws.{RowFits, row-fits, head-below, head-width-read}
 use Rattle.running.specs.inner.Firing.{ruleAt}
 use Rattle.running.proofs.MarkLaws.{topTo, top-head, top-heads}
 use Rattle.running.proofs.marks.top_heads.Statement.{statement}

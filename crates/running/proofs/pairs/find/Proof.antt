@@ -3,7 +3,7 @@ use mathlib.Core.Path.{subst}
 use Prim.Native.Nat.{_+_, _-_, _<_, _≤_}
 use native.Mathlib.Omega.{arith}
 use borrow.Author.Needs.{needs}
-use Rattle.judging.specs.inner.Codes.{Decides}
+use Rattle.rules.specs.inner.Tests.{Decides}
 use Rattle.running.specs.inner.Pairs.{IsPair}
 use Rattle.running.proofs.PairLaws.{Seeking, seek-begin, seek-place, seek-small, seek-less, seek-next, seek-here, seek-nowhere}
 use Rattle.running.proofs.pairs.find.Statement.{statement}

@@ -2,7 +2,7 @@
 use mathlib.Core.Path.{sym, subst, _∙_}
 use Prim.Native.Nat.{ℕ, _+_}
 use borrow.Author.Needs.{needs}
-use Rattle.judging.specs.inner.Codes.{Decides}
+use Rattle.rules.specs.inner.Tests.{Decides}
 use Rattle.running.specs.inner.Held.{rowAt}
 use Rattle.running.specs.inner.Firing.{ruleAt, RecordIn}
 use Rattle.running.specs.inner.Pairs.{SameCarried}

@@ -4,8 +4,8 @@ use Prim.Native.Nat.{_+_, _-_, _<_, _≤_}
 use native.Mathlib.Omega.{arith}
 use borrow.Author.Needs.{needs}
 use Rattle.rules.specs.Table.{sourceAt}
-use Rattle.judging.specs.inner.Codes.{Decides}
-use Rattle.judging.proofs.RuleLaws.{row-fits}
+use Rattle.rules.specs.inner.Tests.{Decides}
+use Rattle.rules.proofs.RuleLaws.{row-fits}
 use Rattle.running.specs.inner.Held.{rowAt}
 use Rattle.running.specs.inner.Firing.{ruleAt}
 use Rattle.running.proofs.PairLaws.{SameTo, same-begun, same-more, same-done, same-not}

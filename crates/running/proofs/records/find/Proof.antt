@@ -5,7 +5,7 @@ use Prim.Native.Nat.{ℕ, _+_, _-_, _*_, _<_}
 use native.Mathlib.Omega.{arith}
 use borrow.Author.Needs.{needs}
 use lib.ListN.{getD}
-use Rattle.judging.specs.inner.Codes.{Decides}
+use Rattle.rules.specs.inner.Tests.{Decides}
 use Rattle.running.specs.inner.Chains.{bucketOf, FoundAt}
 use Rattle.running.specs.inner.Held.{rowAt, bucketAt, section, Stored}
 use Rattle.running.proofs.ChainLaws.{Searching, search-begin, search-place, search-next, search-less, found-here, found-nowhere}

@@ -6,10 +6,10 @@ use native.Mathlib.Omega.{arith}
 use borrow.Author.Needs.{needs}
 use lib.ListN.{length, getD}
 use Rattle.rules.specs.Table.{SheetHeld}
-use Rattle.judging.proofs.RowLaws.{whole-line, kind-low, read-kind, read-other}
+use Rattle.rules.proofs.RowLaws.{whole-line, kind-low, read-kind, read-other}
 use Rattle.running.proofs.FiringLaws.{made-packed}
 use Rattle.running.proofs.BeginLaws.{Putting, put-none, put-other, put-row, put-all, width-few, row-narrow}
-use Rattle.judging.specs.inner.Rows.{rowNumbers}
+use Rattle.rules.specs.inner.Rows.{rowNumbers}
 use Rattle.running.proofs.rows.put_rows.Statement.{statement}
 use Rattle.running.proofs.rows.put_rows.Tie as tie
 

@@ -5,7 +5,7 @@ use native.Mathlib.Omega.{arith}
 use borrow.Author.Needs.{needs}
 use lib.ListN.{length, getD, drop}
 use Rattle.rules.specs.inner.Bytes.{Part}
-use Rattle.judging.specs.inner.Rows.{rowNumbers}
+use Rattle.rules.specs.inner.Rows.{rowNumbers}
 use Rattle.rules.proofs.PartLaws.{part-none, part-more}
 use Rattle.running.proofs.FiringLaws.{filled-row}
 use lib.ListN.{length-drop}

@@ -5,7 +5,7 @@ use Prim.Native.Nat.{ℕ, _+_, _-_, _*_, _<_, _≤_}
 use native.Mathlib.Omega.{arith}
 use borrow.Author.Needs.{needs}
 use lib.ListN.{length, getD, set, length-set}
-use Rattle.judging.specs.inner.Codes.{Decides}
+use Rattle.rules.specs.inner.Tests.{Decides}
 use Rattle.carrying.specs.Carrying.{FiresOn}
 use Rattle.running.specs.inner.Firing.{ruleAt, rowNo}
 use Rattle.running.proofs.FiringLaws.{stored-record}
