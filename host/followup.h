@@ -114,7 +114,7 @@ struct followup_judge_reply {
     size_t deepest;   /* the deepest generation; 0 when endless or without rows */
     size_t shapes;    /* how many shapes the reachable records show, at most 512 */
     size_t fired;     /* how many rules fire on some reachable record */
-    size_t share;     /* 100 * fired / rules to the nearest whole, half upward; 0 without rules */
+    size_t share;     /* 100 * fired / rules to the nearest whole, a half to the even one (1 of 8: 12, 3 of 8: 38); 0 without rules */
     size_t row;       /* the row that the trail starts from, counted from 1 among R lines; 0 where it settles with deepest 0 */
     size_t trail;     /* how many steps the trail has; they come first */
     size_t loop;      /* how many steps the loop has; they follow the trail's; 0 where the sheet settles */

@@ -75,10 +75,15 @@ def refused(name, text, number, at, lent=4096):
 
 SHOWN = kinds(2) + rule((1, 1, 2), (1, 2, 3))
 TWICE = kinds(2) + rule((1, 1, 1), (1, 2, 1))
-EIGHT = kinds(1, 1) + rule((1, 1), (1, 1)) + rule((2, 1), (2, 1)) * 7 + rows((1, 5))
+
+
+def rules_fired(fired, count):
+    """So many rules, of which so many fire."""
+    return kinds(1, 1) + rule((1, 1), (1, 1)) * fired + rule((2, 1), (2, 1)) * (count - fired) + rows((1, 5))
+
 
 CASES = [
-    # document 01, "Sheets to try"
+    # document 01, "Sheets to try"; a share at a half by document 02
     case("the sheet that document 01 shows", SHOWN + rows((1, 7, 8)), ENDLESS, 0, 1, 1, 100, 1, 0, 1),
     case("empty text", "", SETTLES, 0, 0, share=0),
     case("the sheet above without its row", SHOWN, SETTLES, 0),
@@ -90,7 +95,7 @@ CASES = [
     case("document 002, example 4.3", kinds(4, 2) + rule((1, 1, 2, 1, 3), (2, 1, 4)) + rule((2, 1, 2), (1, 1, 1, 2, 2)) + rows((1, 5, 6, 5, 7)), SETTLES, 1, 3, share=100),
     case("P(1) -> Q(1,2), Q(1,2) -> P(2), row P 5", kinds(1, 2) + rule((1, 1), (2, 1, 2)) + rule((2, 1, 2), (1, 2)) + rows((1, 5)), ENDLESS, loop=2),
     case("P(1) -> Q(2), Q(1) -> T(1,2), row P 5", kinds(1, 1, 2) + rule((1, 1), (2, 2)) + rule((2, 1), (3, 1, 2)) + rows((1, 5)), SETTLES, 2),
-    case("one rule of eight fired", EIGHT, SETTLES, fired=1, share=13),
+    case("one rule of eight fired", rules_fired(1, 8), SETTLES, fired=1, share=12),
     case("512 rows of different shapes", different_shapes(512), SETTLES, 0, 512),
     refused("513 rows of different shapes", different_shapes(513), 11, 0),
     case("text of 32,768 bytes", longest(), SETTLES),
@@ -99,7 +104,13 @@ CASES = [
     refused("257 rules", same_rules(257), 6, 514),
     case("4,096 steps lent", SHOWN + rows((1, 7, 8)), ENDLESS, lent=4096),
     refused("4,095 steps lent", SHOWN + rows((1, 7, 8)), 12, 0, lent=4095),
-    # beyond document 01: longer ways, several H lines, several carried marks, value 0, equal rows and equal rules
+    # shares at a half: document 02's other example and more
+    case("three rules of eight fired", rules_fired(3, 8), SETTLES, fired=3, share=38),
+    case("five rules of eight fired", rules_fired(5, 8), SETTLES, fired=5, share=62),
+    case("seven rules of eight fired", rules_fired(7, 8), SETTLES, fired=7, share=88),
+    case("one rule of 40 fired", rules_fired(1, 40), SETTLES, fired=1, share=2),
+    case("one rule of 200 fired", rules_fired(1, 200), SETTLES, fired=1, share=0),
+    # beyond the documents: longer ways, several H lines, several carried marks, value 0, equal rows and equal rules
     case("a chain of five kinds", kinds(1, 2, 2, 2, 2) + "".join(rule((k, *range(1, (k > 1) + 2)), (k + 1, (k > 1) + 1, (k > 1) + 2)) for k in range(1, 5)) + rows((1, 5)), SETTLES, 4, 5, 4, 100),
     case("four H lines that share a fresh mark", kinds(2, 3, 6) + rule((1, 1, 2), (2, 1, 3, 4), (2, 3, 3, 2), (3, 1, 2, 3, 4, 5, 1), (1, 3, 3)) + rows((1, 0, 0), (1, 0, 1)), ENDLESS),
     case("the larger of two carried values", kinds(1, 2, 2, 2) + rule((1, 1), (2, 1, 2)) + rule((2, 1, 2), (3, 1, 2), (3, 2, 3)) + rule((3, 1, 2), (4, 2, 3), (4, 1, 3)) + rows((1, 0)), SETTLES, 3),

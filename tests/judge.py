@@ -39,7 +39,12 @@ def rows_of_shapes(count):
 
 
 P1, P2 = line("K", 1, 1), line("K", 1, 2)
-ONE_OF_EIGHT = P1 + line("K", 2, 1) + line("B", 1, 1) + line("H", 1, 1) + (line("B", 2, 1) + line("H", 2, 1)) * 7 + line("R", 1, 5)
+
+
+def rules_fired(fired, count):
+    """So many rules, of which so many fire."""
+    return P1 + line("K", 2, 1) + (line("B", 1, 1) + line("H", 1, 1)) * fired + (line("B", 2, 1) + line("H", 2, 1)) * (count - fired) + line("R", 1, 5)
+
 
 CASES = [
     ("document 01's example", P2 + line("B", 1, 1, 2) + line("H", 1, 2, 3) + line("R", 1, 7, 8), verdict((2, 0, 1, 1, 100, 1, 0, 1), (1, 1, 2, 2, 1))),
@@ -54,7 +59,10 @@ CASES = [
     ("P(1) -> Q(1,2), Q(1,2) -> P(2)", P1 + line("K", 2, 2) + line("B", 1, 1) + line("H", 2, 1, 2) + line("B", 2, 1, 2) + line("H", 1, 2) + line("R", 1, 5), verdict((2, 0, 2, 2, 100, 1, 0, 2), (1, 1, 1, 2, 1), (2, 1, 2, 1, 0))),
     ("P(1) -> Q(2), Q(1) -> T(1,2)", P1 + line("K", 2, 1) + line("K", 3, 2) + line("B", 1, 1) + line("H", 2, 2) + line("B", 2, 1) + line("H", 3, 1, 2) + line("R", 1, 5), verdict((1, 2, 3, 2, 100, 1, 2, 0), (1, 1, 0, 1, 1), (2, 1, 1, 2, 1))),
     ("S(1) -> Q(1), P(1) -> S(2)", P1 + line("K", 2, 1) + line("K", 3, 1) + line("B", 3, 1) + line("H", 2, 1) + line("B", 1, 1) + line("H", 3, 2) + line("R", 1, 1) + line("R", 2, 3), verdict((1, 1, 3, 2, 100, 1, 1, 0), (2, 1, 0, 1, 1))),
-    ("one rule of eight fired", ONE_OF_EIGHT, verdict((1, 0, 1, 1, 13, 0, 0, 0))),
+    ("one rule of eight fired", rules_fired(1, 8), verdict((1, 0, 1, 1, 12, 0, 0, 0))),
+    ("three rules of eight fired", rules_fired(3, 8), verdict((1, 0, 1, 3, 38, 0, 0, 0))),
+    ("one rule of 200 fired", rules_fired(1, 200), verdict((1, 0, 1, 1, 0, 0, 0, 0))),
+    ("three rules of 200 fired", rules_fired(3, 200), verdict((1, 0, 1, 3, 2, 0, 0, 0))),
     ("512 rows of different shapes", rows_of_shapes(512), verdict((1, 0, 512, 0, 0, 0, 0, 0))),
     ("513 rows of different shapes", rows_of_shapes(513), line("N", 11, 0)),
     ("256 rules", P1 + (line("B", 1, 1) + line("H", 1, 1)) * 256 + line("R", 1, 5), verdict((1, 0, 1, 256, 100, 0, 0, 0))),

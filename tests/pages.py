@@ -61,7 +61,7 @@ THEOREMS = [
     ("chase/specs/Chase.antt", "document 000's triggers and derivations, document 002's stages"),
     ("chase/specs/Certificate.antt", "what makes a verdict right, shape by shape"),
     ("chase/specs/Simplification.antt", "document 002's dynamic simplification"),
-    ("chase/specs/Cases.antt", "the scope document's starred cases"),
+    ("chase/specs/Cases.antt", "the documents' cases"),
     ("carrying/specs/Sheets.antt", "small sheets with their records and firings"),
 ]
 

@@ -74,12 +74,20 @@ pub fn judge_text(text: &[u8], lent_steps: usize) -> Result<Verdict, Refusal> {
     judge(lines.as_flattened(), lent_steps)
 }
 
-/// 100 × fired / rules to the nearest whole, half upward.
+/// 100 × fired / rules to the nearest whole, a half to the even neighbour.
 fn share(fired: usize, rules: usize) -> usize {
     if rules == 0 {
         return 0;
     }
-    (200 * fired + rules) / (2 * rules)
+    let (upward, rest) = (
+        (200 * fired + rules) / (2 * rules),
+        (200 * fired + rules) % (2 * rules),
+    );
+    if rest == 0 && upward % 2 == 1 {
+        upward - 1
+    } else {
+        upward
+    }
 }
 
 /// A reached shape. Equal fields form a class, numbered by first appearance.

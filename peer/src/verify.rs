@@ -54,10 +54,6 @@ pub fn verify(numbers: &[u32], verdict: &Verdict) -> Result<(), String> {
 
 fn check_counts(sheet: &Sheet, closure: &Closure, verdict: &Verdict) -> Result<(), String> {
     let rules = sheet.rules.len();
-    let share = match rules {
-        0 => 0,
-        _ => (100 * closure.fired * 2 + rules) / (rules * 2),
-    };
     require(
         verdict.shapes == closure.moves.len(),
         "the count of reached shapes",
@@ -67,9 +63,19 @@ fn check_counts(sheet: &Sheet, closure: &Closure, verdict: &Verdict) -> Result<(
         "the count of rules that fire on some reachable record",
     )?;
     require(
-        verdict.share == share,
-        "the share, to the nearest whole, half upward",
+        is_share(verdict.share, closure.fired, rules),
+        "the share, to the nearest whole, a half to the even neighbour",
     )
+}
+
+/// Whether a share is within a half of 100 × fired / rules, and even where it is a half away.
+fn is_share(share: usize, fired: usize, rules: usize) -> bool {
+    if rules == 0 {
+        return share == 0;
+    }
+    let (twice_share, rules) = (2 * share as u128, rules as u128);
+    let away = (200 * fired as u128).abs_diff(twice_share * rules);
+    away < rules || away == rules && share % 2 == 0
 }
 
 /// What happens where a rule fires on a shape and makes another by an H line.

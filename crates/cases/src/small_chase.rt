@@ -393,7 +393,7 @@ fn count(lines: &[u32], wanted: u32) -> usize {
     found
 }
 
-// 100 × part / whole to the nearest whole number, half upward; 0 where the whole is 0. The part is at most 256.
+// 100 × part / whole to the nearest whole number, a half to the even neighbour; 0 where the whole is 0. The part is at most 256.
 fn nearest(part: usize, whole: usize) -> usize {
     if whole == 0 {
         return 0;
@@ -401,7 +401,15 @@ fn nearest(part: usize, whole: usize) -> usize {
     if 256 < part {
         return 0;
     }
-    (100 * part + whole / 2) / whole
+    // How many halves it has, and half of them, an odd one upward; just at a half that may be one too many.
+    let halves = 200 * part / whole;
+    let upward = halves - halves / 2;
+    if 200 * part % whole == 0 {
+        if upward % 2 == 1 {
+            return halves / 2;
+        }
+    }
+    upward
 }
 
 // The share of the rules that fired.

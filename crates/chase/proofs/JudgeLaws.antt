@@ -56,7 +56,7 @@ module _ (limit : ℕ) (numbers before : List ℕ) where
     pub right-fired : Count (Fired (rulesOf lines) (rowsOf lines)) (v .fired)
     right-fired = subst (λ (ls : List Line). Count (Fired (rulesOf ls) (rowsOf ls)) (v .fired)) same-lines (r .fired)
 
-    right-share : v .share ≡ share (v .fired) (length (rulesOf lines))
+    pub right-share : v .share ≡ share (v .fired) (length (rulesOf lines))
     right-share = r .share-is ∙ ap (λ (ls : List Line). share (v .fired) (length (rulesOf ls))) same-lines
 
     pub verdict-settles : (v .verdict ≡ 1) ↔ ((d : ℕ) × Bounded (rulesOf lines) (rowsOf lines) d)

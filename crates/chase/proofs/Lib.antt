@@ -1,4 +1,4 @@
--- The pages for a reader are Generations, Theorems, Derivations, CaseTheorem, Errors and Numbering; the others are the laws that the proofs rest on.
+-- The pages for a reader are Generations, Share, Theorems, Derivations, CaseTheorem, Errors and Numbering; the others are the laws that the proofs rest on.
 pub mod Generations
 pub mod ListLaws
 pub mod MakingLaws
@@ -19,6 +19,7 @@ pub mod SequenceLaws
 pub mod DepthLaws
 pub mod QueueLaws
 pub mod DerivationLaws
+pub mod Share
 pub mod JudgeLaws
 pub mod Decisions
 pub mod Goings

@@ -1,9 +1,9 @@
 -- The theorems on the chase that a reader relies on. Each stands first as a sentence; its proof cites the laws. Assumes nothing.
-use mathlib.Core.Path.{_≡_, ap}
+use mathlib.Core.Path.{_≡_, ap, _∙_}
 use mathlib.Core.Bool.{false≢true}
 use mathlib.Core.Logic.{_↔_, _⊎_}
 use mathlib.Core.List.{List, _∷_}
-use Prim.Native.Nat.{ℕ, _≤_}
+use Prim.Native.Nat.{ℕ, _≤_, _<_}
 use lib.ListN.{length}
 use Rattle.sheet.specs.Line.{Line}
 use Rattle.patterns.specs.Outcome.{good}
@@ -14,7 +14,7 @@ use Rattle.chase.specs.Value.{Value, table, generation}
 use Rattle.chase.specs.Making.{Record, Agree, carriedValues, Fires, freshOf, made}
 use Rattle.chase.specs.Run.{Firing, rowsOf, start, fire, run, Fits, AllFit, Reachable}
 use Rattle.chase.specs.Shape.{Shape, Reached, Fired}
-use Rattle.chase.specs.Counting.{NoTwo, Count}
+use Rattle.chase.specs.Counting.{NoTwo, Count, share}
 use Rattle.chase.specs.Chase.{Instance, ChaseOf, FiniteDerivation, FairDerivation}
 use Rattle.chase.specs.Simplification.{Derived, Counts}
 use Rattle.chase.specs.Judge.{Verdict, Judgement, judged, refuses, Left, Bounded, Unbounded, JudgeMeets}
@@ -26,7 +26,8 @@ use Rattle.chase.proofs.CountLaws.{count-iff, fired-below}
 use Rattle.chase.proofs.AgreeLaws.{agree-places, places-agree}
 use Rattle.chase.proofs.CertificateLaws.{not-both}
 use Rattle.chase.proofs.FiniteLaws.{finite-bounded, bounded-finite}
-use Rattle.chase.proofs.JudgeLaws.{verdict-settles, verdict-endless, verdict-deepest, figures-one, judged-not-refused, refusal-one}
+use Rattle.chase.proofs.JudgeLaws.{verdict-settles, verdict-endless, verdict-deepest, right-share, figures-one, judged-not-refused, refusal-one}
+use Rattle.chase.proofs.Share.{Rounds, share-of-nothing, share-means}
 
 -- FRESH NUMBERS
 
@@ -171,6 +172,15 @@ module _ (limit : ℕ) (numbers before : List ℕ) (v : Verdict) (now : List ℕ
       → Bounded (rulesOf lines) (rowsOf lines) (v .deepest)
       × ((v .deepest ≡ 0) ⊎ ((value : Value) × Left (rulesOf lines) (rowsOf lines) value × (generation value ≡ v .deepest)))
   deepest-is-met p = verdict-deepest limit numbers before v now lines (meets .1) sheet p
+
+  -- Without rules the share is 0.
+  pub share-without-rules : length (rulesOf lines) ≡ 0 → v .share ≡ 0
+  share-without-rules e = right-share limit numbers before v now lines (meets .1) sheet ∙ ap (share (v .fired)) e ∙ share-of-nothing (v .fired)
+
+  -- With rules it is within a half of 100 × fired rules / rules, and even where it is just a half away. No other number is so (`share-means` in Share).
+  pub share-is-nearest : 0 < length (rulesOf lines) → Rounds (v .fired) (length (rulesOf lines)) (v .share)
+  share-is-nearest some =
+      share-means (v .fired) (length (rulesOf lines)) (v .share) some .0 (right-share limit numbers before v now lines (meets .1) sheet)
 
 -- The figures that two verdicts have in common; the starting row and the steps are the program's choice.
 pub record SameFigures (v w : Verdict) : Type 0 where

@@ -2,7 +2,6 @@
 ghost use mathlib.Core.Path.{_≡_};
 ghost use Prim.Native.Nat.{_+_, _*_, _≤_, _<_};
 ghost use lib.ListN.{length};
-ghost use Rattle.chase.specs.Counting.{share as shareOf};
 ghost use Rattle.judging.specs.inner.Found.{onesIn};
 ghost use Rattle.judging.specs.inner.Nodes.{Grid, fromOf};
 ghost use Rattle.judging.specs.inner.Written.{InTurn, InLine};
@@ -16,6 +15,7 @@ use crate::grid::number;
 use crate::search::Found;
 use crate::search::Way;
 use crate::trail;
+use arithmetic::share;
 
 // Row, trail and loop of an answer; the steps are written.
 struct Path {
@@ -40,17 +40,6 @@ fn fired_count(fired: &[u8; 256], rules: usize) -> usize
     count
 }
 
-// 100 × part / whole to the nearest whole number, half upward; 0 where the whole is 0.
-fn share(part: usize, whole: usize) -> usize
-    requires { ⌜ (part ≤ 256) × (whole ≤ 256) ⌝ }
-    ensures { λ r. ⌜ r ≡ shareOf part whole ⌝ }
-{
-    if whole == 0 {
-        return 0;
-    }
-    (200 * part + whole) / (2 * whole)
-}
-
 // The figures that are counts: shapes, fired rules and the share; the others are 0.
 pub(crate) fn counts(found: Found, rules: usize) -> Figures
     requires { ⌜ (length (found .fired) ≡ 256) × (rules ≤ 256) ⌝ }
@@ -62,7 +51,7 @@ pub(crate) fn counts(found: Found, rules: usize) -> Figures
         deepest: 0,
         shapes: found.count,
         fired,
-        share: share(fired, rules),
+        share: share(fired as u32, rules as u32),
         row: 0,
         trail: 0,
         turns: 0,

@@ -1,11 +1,10 @@
 -- The numbers that are printed have columns: each figure of a verdict, and the line of each refusal. Assumes nothing.
 use mathlib.Core.Path.{_≡_, refl, sym, ap, _∙_}
-use mathlib.Core.Bool.{Bool, true, false, cond}
+use mathlib.Core.Bool.{Bool, true, false}
 use mathlib.Core.Logic.{_⊎_, inl, inr}
 use mathlib.Core.List.{List, [], _∷_}
 use mathlib.Core.Option.{Option, none, some}
-use Prim.Native.Nat.{ℕ, zero, suc, _+_, _*_, _/_, _≤_}
-use native.Mathlib.Nat.{div-le-self}
+use Prim.Native.Nat.{ℕ, zero, suc, _+_, _≤_}
 use native.Mathlib.Omega.{arith}
 use lib.Dec.{eqb}
 use lib.ListN.{length, take, drop, length-append, length-map}
@@ -21,12 +20,12 @@ use Rattle.chase.specs.Rules.{Head, Rule, rulesOf, rowLines, nth}
 use Rattle.chase.specs.Value.{Value, values, generation, deepest}
 use Rattle.chase.specs.Making.{Record, made, freshOf, valueOf, carriedValues}
 use Rattle.chase.specs.Run.{rowsOf, rowRecord}
-use Rattle.chase.specs.Counting.{share}
 use Rattle.chase.specs.Steps.{Step, madeBy, after, lastOf, lastTo}
 use Rattle.chase.specs.Judge.{Verdict, Right, SettlesAtOnce, Settles, Endless, Refuses, shapeLimit, trailLimit}
 use Rattle.chase.proofs.BoundLaws.{rows-of-tables}
 use Rattle.chase.proofs.CountLaws.{element-below, fired-below}
 use Rattle.chase.proofs.MakingLaws.{makes-in, valueOf-in-fields, carriedValues-in-fields}
+use Rattle.chase.proofs.Share.{share-at-most-100}
 use Rattle.chase.proofs.StepLaws.{nth-in}
 use Rattle.report.specs.Report.{verdictNumbers, lineLimit}
 use Rattle.report.specs.inner.Promises.{SheetLent}
@@ -103,14 +102,6 @@ row-below : {A : Type 0} (xs : List A) (n : ℕ) (x : A) → nth xs n ≡ some x
 row-below xs zero x e = omega arith
 row-below xs (suc n) x e = omega (arith, element-below xs n x e)
 
-share-below : (part whole : ℕ) → share part whole ≤ 200 * part + whole
-unfolding share
-share-below part whole = go (eqb whole 0)
-  where
-    go : (t : Bool) → cond t 0 ((200 * part + whole) / (2 * whole)) ≤ 200 * part + whole
-    go true = omega arith
-    go false = div-le-self (200 * part + whole) (2 * whole)
-
 -- ---- the figures of a verdict
 
 module _ (numbers before : List ℕ) (v : Verdict) (now : List ℕ) (sheet : SheetLent numbers) (r : Right shapeLimit numbers before v now) where
@@ -147,7 +138,7 @@ module _ (numbers before : List ℕ) (v : Verdict) (now : List ℕ) (sheet : She
   figures-in-range =
       let fired = fired-below (rulesOf (r .lines)) (rowsOf (r .lines)) (v .fired) (r .fired) in
       let rules = few-rules (r .lines) in
-      let part = share-below (v .fired) (length (rulesOf (r .lines))) in
+      let part = share-at-most-100 (v .fired) (length (rulesOf (r .lines))) fired in
       let few = lines-few in
       let (verdict, deepest, row) = small in
       in-range-all (verdictNumbers v)

@@ -114,6 +114,7 @@ struct Tally {
     firings: usize,
     full: usize,
     endless: usize,
+    halves: usize,
     chased: usize,
     figures: Vec<Figures>,
 }
@@ -187,6 +188,7 @@ fn compare_judge(random: &mut Random, input: &Input, tally: &mut Tally) -> Resul
             compare_answer(&numbers, &library, steps)?;
             compare_chase(&numbers, &verdict, tally)?;
             tally.count(input.style, &library);
+            tally.halves += usize::from(is_at_a_half(&numbers, verdict.fired));
             counted
         }
     };
@@ -320,6 +322,13 @@ fn compare_figures(library: &JudgeReply, peer: &Verdict) -> Result<usize, String
     size.ok_or("judge: more steps than lent".to_string())
 }
 
+/// Whether 100 × fired / rules lies in the middle between two whole numbers.
+fn is_at_a_half(numbers: &[u32], fired: usize) -> bool {
+    let is_rule = |line: &&[u32]| line[0] == u32::from(b'B');
+    let rules = numbers.chunks_exact(8).filter(is_rule).count();
+    rules > 0 && 200 * fired % rules == 0 && 200 * fired / rules % 2 == 1
+}
+
 /// The figures and steps that are the library's choice, by the peer's test of answers.
 fn compare_answer(numbers: &[u32], library: &JudgeReply, steps: &[u8]) -> Result<(), String> {
     let verdict = Verdict {
@@ -433,7 +442,8 @@ impl fmt::Display for Tally {
     fn fmt(&self, f: &mut fmt::Formatter) -> fmt::Result {
         write!(
             f,
-            "read {}; write {}; pattern {}; judge {}; {} settle, {} endless, {} chased to the end; \
+            "read {}; write {}; pattern {}; judge {}; {} settle, {} endless, {} chased to the end, \
+             {} shares at a half; \
              carry {}; {} records by {} firings, {} times exactly 4,096 records",
             counts(&self.read),
             counts(&self.written),
@@ -442,6 +452,7 @@ impl fmt::Display for Tally {
             self.judged[0] - self.endless,
             self.endless,
             self.chased,
+            self.halves,
             counts(&self.carried),
             self.records,
             self.firings,

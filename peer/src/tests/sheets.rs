@@ -105,12 +105,32 @@ fn patterns_rise_with_length_and_digits() {
     }
 }
 
-#[test]
-fn one_rule_of_eight() {
-    let mut sheet = "K 1 1; K 2 1; B 1 1; H 1 1;".to_string();
-    sheet.push_str(&"B 2 1; H 2 1;".repeat(7));
+/// So many rules fire, and so many there are.
+fn rules_fired(fired: usize, rules: usize) -> String {
+    let mut sheet = "K 1 1; K 2 1;".to_string();
+    sheet.push_str(&"B 1 1; H 1 1;".repeat(fired));
+    sheet.push_str(&"B 2 1; H 2 1;".repeat(rules - fired));
     sheet.push_str("R 1 5");
-    assert_eq!(figures(&sheet), (false, 0, 1, 1, 13, 0, 0));
+    sheet
+}
+
+#[test]
+fn shares_at_a_half() {
+    assert_eq!(figures(&rules_fired(1, 8)), (false, 0, 1, 1, 12, 0, 0));
+    assert_eq!(figures(&rules_fired(3, 8)), (false, 0, 1, 3, 38, 0, 0));
+    let share = |fired, rules| figures(&rules_fired(fired, rules)).4;
+    assert_eq!([5, 7].map(|fired| share(fired, 8)), [62, 88]);
+    assert_eq!([1, 3, 5, 7].map(|fired| share(fired, 40)), [2, 8, 12, 18]);
+    assert_eq!([1, 3, 5].map(|fired| share(fired, 200)), [0, 2, 2]);
+}
+
+#[test]
+fn other_shares() {
+    let share = |fired, rules| figures(&rules_fired(fired, rules)).4;
+    assert_eq!([1, 2, 3].map(|fired| share(fired, 3)), [33, 67, 100]);
+    assert_eq!([0, 1, 2].map(|fired| share(fired, 201)), [0, 0, 1]);
+    assert_eq!([0, 1, 2].map(|fired| share(fired, 199)), [0, 1, 1]);
+    assert_eq!([0, 8].map(|fired| share(fired, 8)), [0, 100]);
 }
 
 /// 64 kinds of width six, and rows of as many different shapes as asked for.
