@@ -57,6 +57,7 @@ THEOREMS = [
     ("patterns/specs/PatternTable.antt", "the test of the table of patterns, and the order of patterns"),
     ("walker/specs/Handed.antt", "what a walk along a text hands out"),
     ("sheet/specs/Refusals.antt", "why a text or lent lines are refused, said in lines and their texts alone"),
+    ("chase/specs/Rounding.antt", "the nearest whole number, without a formula for it"),
     ("chase/specs/Homomorphism.antt", "document 000's substitutions, frontier and nulls"),
     ("chase/specs/Chase.antt", "document 000's triggers and derivations, document 002's stages"),
     ("chase/specs/Certificate.antt", "what makes a verdict right, shape by shape"),

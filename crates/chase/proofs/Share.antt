@@ -7,16 +7,7 @@ use native.Mathlib.Nat.{mul-le-mul-right, mod-lt, div-add-mod', suc-mul, add-mul
 use native.Mathlib.Omega.{arith}
 use borrow.Author.Tests.{eq-eqb, ne-eqb, lt-ltb, le-ltb}
 use Rattle.chase.specs.Counting.{nearest, share}
-
-abbrev pub Even : ℕ → Type 0
-Even n = n % 2 ≡ 0
-
--- s is within a half of 100 × part / whole, and even where it is just a half away: 200 × part and 2 × s × whole differ by at most whole, and by whole only if s is even.
-pub record Rounds (part whole s : ℕ) : Type 0 where
-  pub not-above : 2 * (s * whole) ≤ 200 * part + whole
-  pub not-below : 200 * part ≤ 2 * (s * whole) + whole
-  pub half-above : 2 * (s * whole) ≡ 200 * part + whole → Even s
-  pub half-below : 200 * part ≡ 2 * (s * whole) + whole → Even s
+use Rattle.chase.specs.Rounding.{Even, Rounds}
 
 -- ---- the neighbours of a quotient
 

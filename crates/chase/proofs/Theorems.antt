@@ -15,6 +15,7 @@ use Rattle.chase.specs.Making.{Record, Agree, carriedValues, Fires, fres
 use Rattle.chase.specs.Run.{Firing, rowsOf, start, fire, run, Fits, AllFit, Reachable}
 use Rattle.chase.specs.Shape.{Shape, Reached, Fired}
 use Rattle.chase.specs.Counting.{NoTwo, Count, share}
+use Rattle.chase.specs.Rounding.{Rounds}
 use Rattle.chase.specs.Chase.{Instance, ChaseOf, FiniteDerivation, FairDerivation}
 use Rattle.chase.specs.Simplification.{Derived, Counts}
 use Rattle.chase.specs.Judge.{Verdict, Judgement, judged, refuses, Left, Bounded, Unbounded, JudgeMeets}
@@ -27,7 +28,7 @@ use Rattle.chase.proofs.AgreeLaws.{agree-places, places-agree}
 use Rattle.chase.proofs.CertificateLaws.{not-both}
 use Rattle.chase.proofs.FiniteLaws.{finite-bounded, bounded-finite}
 use Rattle.chase.proofs.JudgeLaws.{verdict-settles, verdict-endless, verdict-deepest, right-share, figures-one, judged-not-refused, refusal-one}
-use Rattle.chase.proofs.Share.{Rounds, share-of-nothing, share-means}
+use Rattle.chase.proofs.Share.{share-of-nothing, share-means}
 
 -- FRESH NUMBERS
 

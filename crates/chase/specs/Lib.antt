@@ -8,6 +8,7 @@ pub mod Shape
 pub mod Counting
 pub mod Steps
 pub mod Judge
+pub mod Rounding
 pub mod Homomorphism
 pub mod Chase
 pub mod Simplification

@@ -5,7 +5,8 @@ use native.Mathlib.Nat.{mod-le, mod-lt, div-le-self, div-add-mod'}
 use native.Mathlib.Omega.{arith}
 use borrow.Author.Needs.{needs}
 use Rattle.chase.specs.Counting.{share as shareOf}
-use Rattle.chase.proofs.Share.{Even, share-means, share-of-nothing, rounds-down, rounds-up}
+use Rattle.chase.specs.Rounding.{Even}
+use Rattle.chase.proofs.Share.{share-means, share-of-nothing, rounds-down, rounds-up}
 use Rattle.arithmetic.proofs.share.Statement.{statement}
 use Rattle.arithmetic.proofs.share.Tie as tie
 
