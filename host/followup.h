@@ -1,9 +1,11 @@
-/* Follow-up sheets: reading, writing, judging and carrying them out, from C99 or C++. Link with libfollowup.a, which is built for x86-64 Linux (ELF,
- * System V ABI, 64-bit pointers) and uses the C library's memcpy and memset and nothing else.
+/* Follow-up sheets: reading, writing, judging and carrying them out, and what that comes to at most, from C99 or C++. Link with
+ * libfollowup.a, which is built for x86-64 Linux (ELF, System V ABI, 64-bit pointers) and uses the C library's memcpy and memset and
+ * nothing else.
  *
  * A sheet is a text; followup_judge_text says of it whether the follow-ups come to rest. In two steps: followup_read turns the text
  * into lines, eight numbers each, and followup_judge judges those lines. followup_carry carries the rules out on such lines and gives
- * the records themselves. The caller lends all memory.
+ * the records themselves; followup_forecast says beforehand how many values, records and firings there are at most. The caller lends
+ * all memory.
  *
  * Numbers. Lent lines, fields and records are u32, lent steps are u16, each as its bytes, lowest first. A last part too short for
  * a number (up to 3 bytes of lines, fields or records, 1 byte of steps) counts as none and is never changed.
@@ -72,6 +74,10 @@ extern "C" {
 #define FOLLOWUP_STEPS_BYTES ((size_t)FOLLOWUP_STEPS * FOLLOWUP_STEP_BYTES)             /* 40,960: enough for judging */
 #define FOLLOWUP_RECORDS_BYTES ((size_t)FOLLOWUP_RECORDS * FOLLOWUP_LINE_BYTES)         /* 131,072: enough for carrying out */
 
+/* What the forecast gives for a figure over 4,294,967,295. It is more than any u32, so that comparing a figure with one's room needs no
+ * other test. */
+#define FOLLOWUP_BEYOND ((uint64_t)4294967296)
+
 /* Refusals. Lines count from 1; the line is 0 where none is named. What is said of read holds of judge_text too, but for 7. */
 enum {
     FOLLOWUP_GOOD = 0,           /* no refusal */
@@ -82,13 +88,13 @@ enum {
     FOLLOWUP_MARK_WRONG = 5,     /* read: a mark is not 1 to 12, or skips one */
     FOLLOWUP_TOO_MANY = 6,       /* read: a rule, an H line or a row too many */
     FOLLOWUP_LINES_SHORT = 7,    /* read: more lines than were lent, with the first that does not fit */
-    FOLLOWUP_LINE_WRONG = 8,     /* write, judge, carry: the lent lines are no sheet, with the first wrong line */
+    FOLLOWUP_LINE_WRONG = 8,     /* write, judge, forecast, carry: the lent lines are no sheet, with the first wrong line */
     FOLLOWUP_TEXT_SHORT = 9,     /* write: the lent text is too short; line 0 */
     FOLLOWUP_FIELD_COUNT = 10,   /* pattern: no field, or more than six; line 0 */
-    FOLLOWUP_SHAPES_OVER = 11,   /* judge, judge_text, carry: the reachable records show more than 512 shapes; line 0 */
+    FOLLOWUP_SHAPES_OVER = 11,   /* judge, judge_text, forecast, carry: the reachable records show more than 512 shapes; line 0 */
     FOLLOWUP_STEPS_SHORT = 12,   /* judge, judge_text: fewer than 4,096 steps are lent; line 0 */
     FOLLOWUP_RECORDS_SHORT = 12, /* carry: room for fewer than 4,096 records is lent; line 0 */
-    FOLLOWUP_SHEET_ENDLESS = 21, /* carry: the sheet is endless; line 0 */
+    FOLLOWUP_SHEET_ENDLESS = 21, /* forecast, carry: the sheet is endless; line 0 */
     FOLLOWUP_RECORDS_OVER = 22,  /* carry: more than 4,096 records are reachable; line 0 */
     FOLLOWUP_NUMBER_OVER = 23    /* carry: a fresh number over 99,999,999 would be needed; line 0 */
 };
@@ -128,6 +134,16 @@ struct followup_carry_reply {
     size_t firings;   /* how often a rule fired: the different pairs of a rule and the values of its carried marks */
 };
 
+/* What the forecast answers. Each of the three figures is exact up to 4,294,967,295 and FOLLOWUP_BEYOND above that; all are 0 on a refusal.
+ * No run comes to more, in whatever order its rules fire, nor does that of followup_carry. */
+struct followup_forecast_reply {
+    uint32_t refusal; /* 0: good; otherwise the refusal's number */
+    size_t line;      /* the line that a refusal names; 0 where none, and in a good answer */
+    uint64_t values;  /* the records that a run leaves hold at most so many different values */
+    uint64_t records; /* they are at most so many, the rows among them */
+    uint64_t pairs;   /* at most so many different pairs of a rule and the values of its carried marks fire */
+};
+
 /* A step fires its rule on the record that the step before it made, the first on the starting row, and goes on with the record
  * that one of the rule's H lines makes. Rules count from 1 in sheet order, H lines from 1 within their rule, fields from 1.
  *   carried (fresh 0): the number at the from field stands at the to field of the record made;
@@ -161,6 +177,7 @@ struct followup_reply FOLLOWUP_EXPORTED(followup_write)(const uint8_t *lines, si
 struct followup_reply FOLLOWUP_EXPORTED(followup_pattern)(const uint8_t *fields, size_t fields_len);
 struct followup_judge_reply FOLLOWUP_EXPORTED(followup_judge)(const uint8_t *lines, size_t lines_len, uint8_t *steps, size_t steps_len);
 struct followup_judge_reply FOLLOWUP_EXPORTED(followup_judge_text)(const uint8_t *text, size_t text_len, uint8_t *steps, size_t steps_len);
+struct followup_forecast_reply FOLLOWUP_EXPORTED(followup_forecast)(const uint8_t *lines, size_t lines_len);
 struct followup_carry_reply FOLLOWUP_EXPORTED(followup_carry)(const uint8_t *lines, size_t lines_len, uint8_t *records, size_t records_len);
 struct followup_step FOLLOWUP_EXPORTED(followup_step_at)(const uint8_t *steps, size_t steps_len, size_t k);
 struct followup_span FOLLOWUP_EXPORTED(followup_line_span)(const uint8_t *text, size_t text_len, size_t number);
@@ -204,6 +221,17 @@ static inline struct followup_judge_reply followup_judge_text(const uint8_t *tex
 {
     uint8_t none = 0;
     return FOLLOWUP_EXPORTED(followup_judge_text)(text_len ? text : &none, text_len, steps_len ? steps : &none, steps_len);
+}
+
+/* Foretells of lent lines, 32 bytes each, as reading gives them, what carrying their rules out may come to, and does not carry them out.
+ * Let t be the count of the rows' different values. As often as the deepest generation says, the next t is the first t plus, over all
+ * rules, fresh marks * t to the power of the carried marks; the power 0 is 1. The figures are the last t, the sum over the declared kinds
+ * of t to the width, and the sum over the rules of t to the power of the carried marks. They are bounds: a run mostly leaves far less.
+ * The lines are read and nothing else is lent. No lines give 0, 0, 0. Refusals: 8; 11; 21. */
+static inline struct followup_forecast_reply followup_forecast(const uint8_t *lines, size_t lines_len)
+{
+    uint8_t none = 0;
+    return FOLLOWUP_EXPORTED(followup_forecast)(lines_len ? lines : &none, lines_len);
 }
 
 /* Carries the rules out on lent lines, 32 bytes each, as reading gives them, and gives the records as R lines, 32 bytes each: 82, the
@@ -264,7 +292,7 @@ static inline const char *followup_refusal_text(uint32_t refusal)
     case FOLLOWUP_STEPS_SHORT: /* and FOLLOWUP_RECORDS_SHORT */
         return "Fewer than 4,096 steps, or with carrying out records, are lent.";
     case FOLLOWUP_SHEET_ENDLESS:
-        return "The follow-ups never come to rest, so that they can't be carried out.";
+        return "The follow-ups never come to rest, so that they can be neither carried out nor foretold.";
     case FOLLOWUP_RECORDS_OVER:
         return "The rules make more than 4,096 records, the rows among them.";
     case FOLLOWUP_NUMBER_OVER:

@@ -2,6 +2,7 @@
 #define _DEFAULT_SOURCE
 #include "check_steps.h"
 #include "test_carry.h"
+#include "test_forecast.h"
 
 #include <pthread.h>
 #include <stdio.h>
@@ -13,6 +14,10 @@ _Static_assert(sizeof(struct followup_reply) == 24 && offsetof(struct followup_r
 _Static_assert(sizeof(struct followup_judge_reply) == 80 && offsetof(struct followup_judge_reply, verdict) == 16 &&
                    offsetof(struct followup_judge_reply, loop) == 72,
                "layout of a judge's reply");
+_Static_assert(sizeof(struct followup_forecast_reply) == 40 && offsetof(struct followup_forecast_reply, line) == 8 &&
+                   offsetof(struct followup_forecast_reply, values) == 16 && offsetof(struct followup_forecast_reply, records) == 24 &&
+                   offsetof(struct followup_forecast_reply, pairs) == 32,
+               "layout of the reply of the forecast");
 _Static_assert(sizeof(struct followup_carry_reply) == 32 && offsetof(struct followup_carry_reply, line) == 8 &&
                    offsetof(struct followup_carry_reply, records) == 16 && offsetof(struct followup_carry_reply, firings) == 24,
                "layout of the reply of carrying out");
@@ -86,7 +91,14 @@ static void try_judge_text(const struct job *judged)
     check(same_reply(&job, judged) && memcmp(result, steps, size) == 0, "the text is judged as its lines are");
 }
 
-/* Judges the lines and, where it is not long, the text; carries the lines out. */
+/* Carries the lines out and foretells of them. */
+static void try_run(const struct job *judged)
+{
+    struct job carried = try_carry(judged);
+    try_forecast(judged, &carried);
+}
+
+/* Judges the lines and, where it is not long, the text; carries the lines out, and foretells of them. */
 static struct followup_judge_reply try_judge(void)
 {
     struct job job = try_call(JUDGE, lines, lines_size, FOLLOWUP_STEPS_BYTES + below(100));
@@ -97,7 +109,7 @@ static struct followup_judge_reply try_judge(void)
         check(job.said.shapes <= FOLLOWUP_SHAPES_MAX && job.said.fired <= FOLLOWUP_RULES_MAX && job.said.share <= 100, "figures in their range");
         check(steps_hold(lines, lines_size, result, &job.said), "row, trail, loop and steps are as document 01 says");
     }
-    try_carry(&job);
+    try_run(&job);
     return job.said;
 }
 
@@ -117,7 +129,7 @@ static void judge_refuses(const char *name, uint32_t refusal, size_t line)
     subject = name;
     struct job job = try_call(JUDGE, lines, lines_size, FOLLOWUP_STEPS_BYTES);
     check(says(&job, refusal, line), "judging is refused");
-    try_carry(&job);
+    try_run(&job);
 }
 
 static void write_refuses(const char *name, size_t lent_size, uint32_t refusal, size_t line)
@@ -170,6 +182,7 @@ static void try_header(void)
     check(FOLLOWUP_TEXT_LINES_BYTES == 52416 && FOLLOWUP_SHEET_LINES_BYTES == 75776 && FOLLOWUP_STEPS_BYTES == 40960 &&
               FOLLOWUP_RECORDS_BYTES == 131072,
           "sizes");
+    check(FOLLOWUP_BEYOND > UINT32_MAX && FOLLOWUP_BEYOND - 1 == UINT32_MAX, "beyond is one more than the largest u32");
     end_group();
 }
 
@@ -648,14 +661,18 @@ static void try_small_stack(void)
     try_deep();
     try_line_limits();
     try_carrying();
+    try_forecasting();
     small_stack = 0;
     begin_group("stack");
-    for (size_t call = 0; call < CALLS; call++)
+    for (size_t call = 0; call < CALLS; call++) {
         check(stack_used[call] < FOLLOWUP_STACK, "there is some left");
+        check(stack_used[call] < stack_used[NOTHING] + 256 * 1024, "no call needs 256 KiB itself");
+    }
     snprintf(note, sizeof note,
              " (bytes used: %zu by a thread that calls nothing, %zu with reading, %zu with writing, %zu with judging, %zu with judging a text, "
-             "%zu with carrying out)",
-             stack_used[NOTHING], stack_used[READ], stack_used[WRITE], stack_used[JUDGE], stack_used[JUDGE_TEXT], stack_used[CARRY]);
+             "%zu with the forecast, %zu with carrying out)",
+             stack_used[NOTHING], stack_used[READ], stack_used[WRITE], stack_used[JUDGE], stack_used[JUDGE_TEXT], stack_used[FORECAST],
+             stack_used[CARRY]);
     end_group();
 }
 
@@ -816,7 +833,7 @@ static void try_lines_with_writing(void)
         check(says(&judged, 8, wrote.said.line), "judging refuses the line that writing refuses");
     else
         check(says(&judged, 11, 0) || (judged.said.refusal == 0 && steps_hold(lines, lines_size, result, &judged.said)), "lines that writing takes are judged");
-    try_carry(&judged);
+    try_run(&judged);
 }
 
 static void try_random_lines(void)
@@ -916,6 +933,7 @@ int main(void)
     try_patterns();
     try_deep();
     try_carrying();
+    try_forecasting();
     try_small_stack();
     try_threads();
     try_random_sheets();

@@ -139,10 +139,17 @@ static void keep_carry_reply(struct job *job, struct followup_carry_reply reply)
     job->firings = reply.firings;
 }
 
+static void keep_forecast(struct job *job, struct followup_forecast_reply reply)
+{
+    keep_reply(job, (struct followup_reply){reply.refusal, reply.line, 0});
+    job->foretold = reply;
+}
+
 void *make_call(void *arg)
 {
     struct job *job = arg;
     job->count = job->firings = 0;
+    memset(&job->foretold, 0, sizeof job->foretold);
     if (job->call == READ)
         keep_reply(job, followup_read(job->in, job->in_len, job->out, job->out_len));
     else if (job->call == WRITE)
@@ -153,6 +160,8 @@ void *make_call(void *arg)
         job->said = followup_judge(job->in, job->in_len, job->out, job->out_len);
     else if (job->call == JUDGE_TEXT)
         job->said = followup_judge_text(job->in, job->in_len, job->out, job->out_len);
+    else if (job->call == FORECAST)
+        keep_forecast(job, followup_forecast(job->in, job->in_len));
     else if (job->call == CARRY)
         keep_carry_reply(job, followup_carry(job->in, job->in_len, job->out, job->out_len));
     else if (job->call == STEP)
@@ -183,31 +192,52 @@ void call_on_small_stack(struct job *job)
 /* How many bytes of lent memory the answer counts. */
 size_t counted(const struct job *job)
 {
-    if (job->said.refusal != 0 || job->call == PATTERN || job->call == STEP)
+    if (job->said.refusal != 0 || job->call == PATTERN || job->call == FORECAST || job->call == STEP)
         return 0;
     if (job->call == JUDGE || job->call == JUDGE_TEXT)
         return (job->said.trail + job->said.loop) * FOLLOWUP_STEP_BYTES;
     return job->call == WRITE ? job->count : job->count * FOLLOWUP_LINE_BYTES;
 }
 
-/* Whether the answer is in the form: line 0 in a good one, no figure beside the line in a refusal; 21 to 23 of carrying out alone. */
+/* Whether a refusal is one that the call can have, of those over 12. */
+static int can_refuse(enum call call, uint32_t refusal)
+{
+    return call == CARRY ? refusal >= 21 && refusal <= 23 : call == FORECAST && refusal == 21;
+}
+
+static int no_figures(const struct followup_forecast_reply *foretold)
+{
+    return foretold->values == 0 && foretold->records == 0 && foretold->pairs == 0;
+}
+
+static int figures_in_range(const struct followup_forecast_reply *foretold)
+{
+    return foretold->values <= FOLLOWUP_BEYOND && foretold->records <= FOLLOWUP_BEYOND && foretold->pairs <= FOLLOWUP_BEYOND;
+}
+
+/* Whether the answer is in the form: line 0 in a good one, no figure beside the line in a refusal. */
 static int reply_in_form(const struct job *job)
 {
     const struct followup_judge_reply *said = &job->said;
     if (said->refusal == 0)
-        return said->line == 0;
-    if (said->refusal > 12 && (job->call != CARRY || said->refusal < 21 || said->refusal > 23))
+        return said->line == 0 && figures_in_range(&job->foretold);
+    if (said->refusal > 12 && !can_refuse(job->call, said->refusal))
         return 0;
-    return job->count == 0 && job->firings == 0 && said->verdict == 0 && said->deepest == 0 && said->shapes == 0 && said->fired == 0 &&
-           said->share == 0 && said->row == 0 && said->trail == 0 && said->loop == 0;
+    return no_figures(&job->foretold) && job->count == 0 && job->firings == 0 && said->verdict == 0 && said->deepest == 0 &&
+           said->shapes == 0 && said->fired == 0 && said->share == 0 && said->row == 0 && said->trail == 0 && said->loop == 0;
+}
+
+static int same_figures(const struct followup_forecast_reply *x, const struct followup_forecast_reply *y)
+{
+    return x->values == y->values && x->records == y->records && x->pairs == y->pairs;
 }
 
 int same_reply(const struct job *a, const struct job *b)
 {
     const struct followup_judge_reply *x = &a->said, *y = &b->said;
-    return x->refusal == y->refusal && x->line == y->line && a->count == b->count && a->firings == b->firings && x->verdict == y->verdict &&
-           x->deepest == y->deepest && x->shapes == y->shapes && x->fired == y->fired && x->share == y->share && x->row == y->row &&
-           x->trail == y->trail && x->loop == y->loop;
+    return x->refusal == y->refusal && x->line == y->line && a->count == b->count && a->firings == b->firings &&
+           same_figures(&a->foretold, &b->foretold) && x->verdict == y->verdict && x->deepest == y->deepest && x->shapes == y->shapes &&
+           x->fired == y->fired && x->share == y->share && x->row == y->row && x->trail == y->trail && x->loop == y->loop;
 }
 
 /* Makes a call twice and checks what holds of every call. `result` is what it counts. */

@@ -27,7 +27,7 @@ extern uint8_t result[RESULT_SIZE]; /* what the last call counted in its answer 
 
 void map_memory(void);
 
-enum call { NOTHING, READ, WRITE, PATTERN, JUDGE, JUDGE_TEXT, CARRY, STEP, CALLS };
+enum call { NOTHING, READ, WRITE, PATTERN, JUDGE, JUDGE_TEXT, FORECAST, CARRY, STEP, CALLS };
 
 struct job {
     enum call call;
@@ -38,6 +38,7 @@ struct job {
     struct followup_judge_reply said; /* of the other calls: refusal and line */
     size_t count;   /* of carrying out: records */
     size_t firings; /* of carrying out */
+    struct followup_forecast_reply foretold;
     size_t number;  /* which step */
     struct followup_step step;
 };

@@ -121,10 +121,7 @@ static void try_limits(void)
     carry_refuses("a wrong fifth line, before 21", FOLLOWUP_RECORDS_BYTES, 8, 5);
     carry_refuses("12 before 8", FOLLOWUP_RECORDS_BYTES - 1, 12, 0);
     carry_refuses("no records lent", 0, 12, 0);
-    clear();
-    kinds(3, 6);
-    sheet("K 4 2;B 1 1 2 3 4 5 6;H 1 2 1 3 4 5 6;H 1 2 3 4 5 6 1;H 1 1 1 3 4 5 6;H 2 1 2 3 4 5 6;B 2 1 2 3 4 5 6;H 3 1 2 3 4 5 6");
-    sheet("B 4 1 2;H 4 2 3;R 1 1 2 3 4 5 6;R 4 7 8");
+    endless_of_609_shapes();
     carry_refuses("609 shapes, before 21", FOLLOWUP_RECORDS_BYTES, 11, 0);
 }
 

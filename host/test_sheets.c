@@ -89,3 +89,11 @@ void rows(size_t count)
     for (uint32_t row = 0; row < count; row++)
         add('R', (uint32_t[]){1, row}, 2);
 }
+
+void endless_of_609_shapes(void)
+{
+    clear();
+    kinds(3, 6);
+    sheet("K 4 2;B 1 1 2 3 4 5 6;H 1 2 1 3 4 5 6;H 1 2 3 4 5 6 1;H 1 1 1 3 4 5 6;H 2 1 2 3 4 5 6;B 2 1 2 3 4 5 6;H 3 1 2 3 4 5 6");
+    sheet("B 4 1 2;H 4 2 3;R 1 1 2 3 4 5 6;R 4 7 8");
+}

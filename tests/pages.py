@@ -36,6 +36,7 @@ CONTRACTS = [
     ("chase/specs/Judge.antt", "the whole contract of Judge: `JudgeMeets`"),
     ("rules/specs/Table.antt", "the table of rules: 64 bytes for each rule"),
     ("rules/specs/Answer.antt", "what `rules_of` answers: `RulesMeet`"),
+    ("arithmetic/specs/Capped.antt", "numbers up to a cap, and polynomials"),
     ("judging/specs/Answer.antt", "document 01's numbers for the judge's answers"),
     ("carrying/specs/Carrying.antt", "the rules carried out: which records are visited, and what each visit adds"),
     ("carrying/specs/Meaning.antt", "what the run's numbers mean: the chase, renamed one-to-one"),
@@ -43,10 +44,14 @@ CONTRACTS = [
     ("running/specs/Held.antt", "how a run holds its records"),
     ("running/specs/Run.antt", "the contract of a run without a verdict: `RunMeets`"),
     ("running/specs/Answer.antt", "the paper's numbers for the answers of carrying out"),
+    ("growth/specs/Forecast.antt", "the forecast: the three figures of a sheet that settles"),
+    ("growth/specs/Contract.antt", "the whole contract of the forecast: `ForecastMeets`"),
+    ("forecasting/specs/Answer.antt", "the paper's numbers for the answers of the forecast"),
     ("steps/specs/Showing.antt", "steps as records"),
     ("report/specs/Lines.antt", "a line of a letter and numbers, put into lent text"),
     ("report/specs/Report.antt", "what the judging program prints"),
     ("listing/specs/Listing.antt", "what the carrying program prints"),
+    ("outlook/specs/Outlook.antt", "what the forecasting program prints"),
     ("console/specs/Input.antt", "a program's input: how much of the buffer it fills"),
     ("followup/specs/Bytes.antt", "numbers as bytes"),
     ("followup/specs/Reply.antt", "the entry points for C"),
@@ -64,6 +69,8 @@ THEOREMS = [
     ("chase/specs/Simplification.antt", "document 002's dynamic simplification"),
     ("chase/specs/Cases.antt", "the documents' cases"),
     ("carrying/specs/Sheets.antt", "small sheets with their records and firings"),
+    ("growth/specs/Counted.antt", "what the figures are said of: values, records and pairs of every run"),
+    ("growth/specs/Sheets.antt", "small sheets with their figures"),
 ]
 
 

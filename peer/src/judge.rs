@@ -61,6 +61,19 @@ pub(crate) fn settles(sheet: &Sheet) -> Option<bool> {
     Some(fresh_inside(&graph, &components(&graph)).is_none())
 }
 
+/// The deepest generation of a sheet; 11 where more than 512 shapes are reached, 21 where the
+/// sheet is endless.
+pub(crate) fn deepest(sheet: &Sheet) -> Result<usize, Refusal> {
+    let refusal = |number| Refusal { number, line: 0 };
+    let graph = explore(sheet).ok_or(refusal(11))?;
+    let parts = components(&graph);
+    if fresh_inside(&graph, &parts).is_some() {
+        return Err(refusal(21));
+    }
+    let best = generations(&graph, &parts);
+    Ok(best.iter().map(|part| part.0).max().unwrap_or(0))
+}
+
 /// Judges a text: 12 comes before reading's refusals, 1 to 6, and 11 after them.
 pub fn judge_text(text: &[u8], lent_steps: usize) -> Result<Verdict, Refusal> {
     if lent_steps < LEAST_STEPS {

@@ -344,9 +344,10 @@ impl Record {
     }
 }
 
-/// The rules and rows of a good sheet, in its order.
+/// A good sheet, in its order; a kind stands with its width.
 #[derive(Default)]
 pub struct Sheet {
+    pub kinds: Vec<(u8, u8)>,
     pub rules: Vec<Rule>,
     pub rows: Vec<Record>,
 }
@@ -368,6 +369,7 @@ impl Sheet {
             marks: values.map(|mark| mark as u8),
         };
         match line[0] {
+            K => self.kinds.push((kind, values[0] as u8)),
             B => self.rules.push(Rule {
                 body: form,
                 heads: [Form::default(); MOST_HEADS],

@@ -1,8 +1,9 @@
-//! Follow-up sheets, read, judged and carried out once more: an implementation of its own,
-//! written from the scope document and the published algorithm, to compare with.
+//! Follow-up sheets, read, judged, carried out and forecast once more: an implementation of
+//! its own, written from the scope document and the published algorithm, to compare with.
 
 pub mod carry;
 pub mod chase;
+pub mod forecast;
 pub mod judge;
 pub mod layout;
 mod mix;
@@ -10,11 +11,14 @@ pub mod random;
 #[cfg(test)]
 mod tests;
 pub mod verify;
+pub mod verify_forecast;
 pub mod verify_run;
 
 pub use carry::{carry, Run};
 pub use chase::{chase, Chased};
+pub use forecast::{forecast, Figure, Forecast};
 pub use judge::{judge, judge_text, Verdict};
 pub use layout::{line_span, pattern, read, write, Line, Refusal};
 pub use verify::verify;
+pub use verify_forecast::{verify_forecast, Left};
 pub use verify_run::verify_run;

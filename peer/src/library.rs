@@ -36,6 +36,18 @@ pub struct CarryReply {
     pub firings: usize,
 }
 
+/// What forecasting answers: refusal 0 and the figures, 4,294,967,296 for one that is beyond,
+/// or a refusal with its number and line.
+#[repr(C)]
+#[derive(Clone, Copy, Debug, PartialEq, Eq)]
+pub struct ForecastReply {
+    pub refusal: u32,
+    pub line: usize,
+    pub values: u64,
+    pub records: u64,
+    pub pairs: u64,
+}
+
 /// A step as a record.
 #[repr(C)]
 #[derive(Clone, Copy, Debug, PartialEq, Eq)]
@@ -87,6 +99,7 @@ extern "C" {
         records: *mut u8,
         records_len: usize,
     ) -> CarryReply;
+    fn followup_forecast_v1(lines: *const u8, lines_len: usize) -> ForecastReply;
     fn followup_step_at_v1(steps: *const u8, steps_len: usize, k: usize) -> Step;
     fn followup_line_span_v1(text: *const u8, text_len: usize, number: usize) -> Span;
 }
@@ -123,6 +136,11 @@ pub fn judge_text(text: &[u8], steps: &mut [u8]) -> JudgeReply {
 pub fn carry(lines: &[u8], records: &mut [u8]) -> CarryReply {
     let (lent, size) = (records.as_mut_ptr(), records.len());
     unsafe { followup_carry_v1(lines.as_ptr(), lines.len(), lent, size) }
+}
+
+/// Forecasts lent lines, 32 bytes each.
+pub fn forecast(lines: &[u8]) -> ForecastReply {
+    unsafe { followup_forecast_v1(lines.as_ptr(), lines.len()) }
 }
 
 /// Step `k`, counted from 0, of lent steps.

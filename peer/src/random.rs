@@ -4,6 +4,8 @@
 pub mod carrying;
 pub mod carrying_series;
 pub mod damage;
+pub mod forecasting;
+pub mod forecasting_series;
 pub mod limits;
 pub mod series;
 pub mod sheets;
@@ -83,8 +85,9 @@ const ALL_RECORDS: usize = 131_072;
 
 impl Input {
     pub fn new(random: &mut Random) -> Input {
-        let (style, sheet) = match random.below(8) {
-            0 => carrying::random(random),
+        let (style, sheet) = match random.below(16) {
+            0 | 1 => carrying::random(random),
+            2 => forecasting::random(random),
             _ => sheets::random(random),
         };
         let mut lines = sheet.lines();

@@ -24,11 +24,11 @@ module _ (rules : List Rule) (rows : List Record) where
   says-settles c d (settles e b m) = (λ p. (e, b), λ s. refl)
   says-settles c d (endless u) = (λ p. absurd (omega arith), λ s. absurd (not-both rules rows (s .0) (s .1) u))
 
-  says-endless : (c d : ℕ) → Says rules rows c d → (c ≡ 2) ↔ Unbounded rules rows
+  pub says-endless : (c d : ℕ) → Says rules rows c d → (c ≡ 2) ↔ Unbounded rules rows
   says-endless c d (settles e b m) = (λ p. absurd (omega arith), λ u. absurd (not-both rules rows e b u))
   says-endless c d (endless u) = (λ p. u, λ w. refl)
 
-  says-deepest : (c d : ℕ) → Says rules rows c d → c ≡ 1 → Bounded rules rows d × Met rules rows d
+  pub says-deepest : (c d : ℕ) → Says rules rows c d → c ≡ 1 → Bounded rules rows d × Met rules rows d
   says-deepest c d (settles e b m) p = (b, m)
   says-deepest c d (endless u) p = absurd (omega arith)
 

@@ -27,6 +27,10 @@ places (suc w) n = places w (n / 10) ++ (placeByte n ∷ [])
 unfoldable pub column : ℕ → List ℕ
 column n = places 8 (n / 10) ++ ((48 + (n % 10)) ∷ [])
 
+-- The wide column of n: twelve places, for a number of up to twelve digits.
+unfoldable pub wideColumn : ℕ → List ℕ
+wideColumn n = places 11 (n / 10) ++ ((48 + (n % 10)) ∷ [])
+
 -- What `column` answers: the column of n; nine blanks where n is over the largest number.
 abbrev pub columnFor : ℕ → List ℕ
 columnFor n = cond (leb n largestNumber) (column n) (replicate 9 32)

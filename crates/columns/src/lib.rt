@@ -2,7 +2,7 @@
 ghost use mathlib.Core.Path.{_≡_};
 ghost use Prim.Native.Nat.{_+_, _≤_};
 ghost use lib.ListN.{length, take, drop};
-ghost use Rattle.columns.specs.Column.{placeByte, column as columnOf, columnFor, columnPut, inForm, numberIn, numberSays};
+ghost use Rattle.columns.specs.Column.{placeByte, column as columnOf, wideColumn, columnFor, columnPut, inForm, numberIn, numberSays};
 
 // What nine bytes are read as.
 pub enum Number {
@@ -44,6 +44,38 @@ fn digits(n: u32) -> [u8; 9]
         place(n2),
         place(n1),
         last,
+    ]
+}
+
+// The digits of `n` right-justified in twelve places, blanks before them. A u32 has up to ten digits.
+pub fn wide_column(n: u32) -> [u8; 12]
+    ensures { λ r. ⌜ r ≡ wideColumn n ⌝ }
+{
+    let m1 = n / 10;
+    let m2 = m1 / 10;
+    let m3 = m2 / 10;
+    let m4 = m3 / 10;
+    let m5 = m4 / 10;
+    let m6 = m5 / 10;
+    let m7 = m6 / 10;
+    let m8 = m7 / 10;
+    let m9 = m8 / 10;
+    let m10 = m9 / 10;
+    let m11 = m10 / 10;
+    let ones = 48 + (n % 10) as u8;
+    [
+        place(m11),
+        place(m10),
+        place(m9),
+        place(m8),
+        place(m7),
+        place(m6),
+        place(m5),
+        place(m4),
+        place(m3),
+        place(m2),
+        place(m1),
+        ones,
     ]
 }
 

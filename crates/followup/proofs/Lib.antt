@@ -9,3 +9,4 @@ pub mod StepBytes
 pub mod StepAt
 pub mod RecordBytes
 pub mod TextLaws
+pub mod ForecastLaws

@@ -12,6 +12,8 @@ use Rattle.sheet.specs.Write.{writeOf}
 use Rattle.patterns.specs.Pattern.{patternOf}
 use Rattle.chase.specs.Judge.{Judgement, judged, refuses, JudgeMeets, stepLimit, shapeLimit}
 use Rattle.carrying.specs.Contract.{Carried, carried, refuses as refusesToCarry, CarryMeets}
+use Rattle.growth.specs.Forecast.{Figure, exactly, beyond}
+use Rattle.growth.specs.Contract.{Foretold, foretold, refuses as refusesToForetell, ForecastMeets}
 use Rattle.steps.specs.Showing.{shownAt}
 use Rattle.walker.specs.Walk.{spanStart, lineStart}
 use Rattle.steps.specs.declared.StepRecord.{StepRecord}
@@ -19,6 +21,7 @@ use Rattle.followup.specs.Bytes.{numbersOf, allBytes}
 use Rattle.followup.specs.declared.Reply.{Reply}
 use Rattle.followup.specs.declared.JudgeReply.{JudgeReply}
 use Rattle.followup.specs.declared.CarryReply.{CarryReply}
+use Rattle.followup.specs.declared.ForecastReply.{ForecastReply}
 use Rattle.followup.specs.declared.StepReply.{StepReply}
 use Rattle.followup.specs.declared.SpanReply.{SpanReply}
 
@@ -111,6 +114,23 @@ pub record CarriesNumbers (numbers before : List ℕ) (r : CarryReply) (after : 
 -- Carrying out, for all bytes of lent lines and of lent records.
 abbrev pub CarriesBytes : List ℕ → List ℕ → CarryReply → List ℕ → Type 0
 CarriesBytes lines before r after = CarriesNumbers (numbersOf 4 lines) before r after
+
+-- A figure as a number; beyond is one more than the largest u32, so that it is above every number that a u32 holds.
+abbrev pub figureNumber : Figure → ℕ
+figureNumber (exactly n) = n
+figureNumber beyond = 4294967296
+
+-- What is foretold has refusal 0 and line 0; a refusal has 0 in every figure.
+abbrev pub ForecastReplies : Foretold → ForecastReply → Type 0
+ForecastReplies (foretold f) r =
+    (r .refusal ≡ 0) × (r .line ≡ 0) × (r .values ≡ figureNumber (f .values)) × (r .records ≡ figureNumber (f .records)) × (r .pairs ≡ figureNumber (f .pairs))
+ForecastReplies (refusesToForetell number line) r = (r .refusal ≡ number) × (r .line ≡ line) × (r .values ≡ 0) × (r .records ≡ 0) × (r .pairs ≡ 0)
+
+-- Foretelling, for all bytes of lent lines. Nothing else is lent.
+pub record ForecastsBytes (lines : List ℕ) (r : ForecastReply) : Type 0 where
+  pub answer : Foretold
+  pub meets : ForecastMeets shapeLimit (numbersOf 4 lines) answer
+  pub replies : ForecastReplies answer r
 
 -- Step k of the numbers that the bytes hold, counted from 0; all zeros where there is none.
 abbrev pub stepReply : StepRecord → StepReply

@@ -15,10 +15,13 @@ ghost use Rattle.running.specs.Held.{recordsFit};
 ghost use Rattle.running.specs.Answer.{carryRefusalNumber, carryRefusalLine};
 ghost use Rattle.running.specs.inner.Carry.{Settled};
 ghost use Rattle.steps.specs.Showing.{shownAt};
+ghost use Rattle.forecasting.specs.Answer.{figureOf, forecastSays};
 ghost use Rattle.followup.specs.Bytes.{numbersOf};
-ghost use Rattle.followup.specs.Reply.{version, Replies, ReadsBytes, WritesBytes, FindsPattern, JudgeReplies, JudgesNumbers, JudgesBytes, JudgesText, CarryReplies, CarriesNumbers, CarriesBytes, ShowsStep, FindsLine};
+ghost use Rattle.followup.specs.Reply.{version, Replies, ReadsBytes, WritesBytes, FindsPattern, JudgeReplies, JudgesNumbers, JudgesBytes, JudgesText, CarryReplies, CarriesNumbers, CarriesBytes, figureNumber, ForecastReplies, ForecastsBytes, ShowsStep, FindsLine};
 ghost use Rattle.followup.specs.inner.Numbers.{ReadsNumbers};
 ghost use Rattle.followup.specs.inner.First.{FirstSays};
+use forecasting::Figure;
+use forecasting::ForecastAnswer;
 use judging::Figures;
 use judging::JudgeAnswer;
 use running::CarryRefusal;
@@ -58,6 +61,16 @@ pub struct CarryReply {
     pub line: usize,
     pub records: usize,
     pub firings: usize,
+}
+
+// What the forecast answers: refusal 0 and three figures; or a refusal with its number and line. A figure beyond the largest u32 is one more than that.
+#[repr(C)]
+pub struct ForecastReply {
+    pub refusal: u32,
+    pub line: usize,
+    pub values: u64,
+    pub records: u64,
+    pub pairs: u64,
 }
 
 // A step: rule, H line within it (1 to 4), from field, to field, fresh (1) or carried (0).
@@ -366,6 +379,55 @@ fn carry_settled(numbers: &[u32], places: &mut [u16], records: &mut [u8]) -> Car
     }
 }
 
+// A figure as a number: beyond is one more than the largest u32.
+fn figure_number(figure: Figure) -> u64
+    ensures { λ r. ⌜ r ≡ figureNumber (figureOf figure) ⌝ }
+{
+    match figure {
+        Figure::Number(number) => number as u64,
+        Figure::Beyond => 4294967296,
+    }
+}
+
+// What the forecast answers, as a reply.
+fn forecast_reply(answer: ForecastAnswer) -> ForecastReply
+    ensures { λ r. ⌜ ForecastReplies (forecastSays answer) r ⌝ }
+{
+    match answer {
+        ForecastAnswer::Foretold(f) => {
+            let values = f.values;
+            let records = f.records;
+            let pairs = f.pairs;
+            ForecastReply {
+                refusal: 0,
+                line: 0,
+                values: figure_number(values),
+                records: figure_number(records),
+                pairs: figure_number(pairs),
+            }
+        }
+        ForecastAnswer::Refused(refusal) => {
+            let said = forecasting::refusal_numbers(refusal);
+            ForecastReply {
+                refusal: said.number as u32,
+                line: said.line,
+                values: 0,
+                records: 0,
+                pairs: 0,
+            }
+        }
+    }
+}
+
+// Foretells of lines, with room for their numbers.
+fn forecast_lines(lines: &[u8], numbers: &mut [u32]) -> ForecastReply
+    requires { ⌜ min (length (now lines) / 4) 18952 ≤ length (now numbers) ⌝ }
+    ensures { λ r. ⌜ ForecastsBytes (now (lines .entry)) r ⌝ }
+{
+    let count = decode_lines(lines, numbers);
+    forecast_reply(forecasting::forecast(&numbers[..count]))
+}
+
 // The numbers of step k, counted from 0; five zeros where the bytes hold none.
 fn step_numbers(steps: &[u8], k: usize) -> [u16; 5]
     ensures { λ r. ⌜ (length r ≡ 5) × (shownAt r 0 ≡ shownAt (numbersOf 2 (now (steps .entry))) k) ⌝ }
@@ -480,6 +542,19 @@ pub extern "C" fn followup_carry_v1(lines: &[u8], records: &mut [u8]) -> CarryRe
         return carry_settled(&few[..held], &mut places, records);
     }
     first
+}
+
+// Foretells of lent lines, 32 bytes each, how many values, records, and pairs of rule and carried values carrying their rules out may come to.
+#[no_mangle]
+pub extern "C" fn followup_forecast_v1(lines: &[u8]) -> ForecastReply
+    ensures { λ r. ⌜ ForecastsBytes (now (lines .entry)) r ⌝ }
+{
+    if lines.len() / 4 > 2048 {
+        let mut many = room_for_lines();
+        return forecast_lines(lines, &mut many);
+    }
+    let mut few = room_for_few_lines();
+    forecast_lines(lines, &mut few)
 }
 
 // Step k of lent steps, counted from 0; all zeros where they hold none.

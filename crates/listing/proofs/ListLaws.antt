@@ -2,18 +2,15 @@
 use mathlib.Core.Path.{_≡_, refl, sym, subst, subst₂, ap, _∙_}
 use mathlib.Core.List.{List, [], _∷_, _++_, map}
 use Prim.Native.Nat.{ℕ, _+_, _*_, _≤_}
-use native.Mathlib.Nat.{zero-add}
 use native.Mathlib.Omega.{arith}
 use lib.ListN.{length, getD, take, drop, length-append}
-use Rattle.patterns.specs.Outcome.{good, refused}
 use Rattle.columns.specs.Column.{put}
 use Rattle.sheet.specs.Line.{Line, textOf}
 use Rattle.sheet.specs.Sheet.{IsSheet}
 use Rattle.sheet.specs.Read.{ReadMeets}
-use Rattle.sheet.specs.Write.{sheetHeld}
 use Rattle.sheet.specs.declared.ReadAnswer.the-variants.{Lines}
 use Rattle.sheet.proofs.PutLaws.{put-more}
-use Rattle.sheet.proofs.Sheets.{sheetHeld-is, sheetHeld-lent, refused≢good}
+use Rattle.sheet.proofs.Sheets.{sheetHeld-is}
 use Rattle.chase.specs.Lists.{In}
 use Rattle.rules.specs.Table.{SheetHeld, goodLines, linesIn}
 use Rattle.carrying.specs.Carrying.{Row}
@@ -21,10 +18,11 @@ use Rattle.carrying.specs.Contract.{carried, refuses, run, rowLine, recordRoom,
 use Rattle.report.specs.Lines.{lineText, PutMeets}
 use Rattle.report.specs.inner.Promises.{SheetLent, Filled}
 use Rattle.report.specs.declared.PutAnswer.{PutAnswer}
+use Rattle.report.proofs.Bounds.{sheet-unrefused}
 use Rattle.report.proofs.Filling.{length-lineText, put-fits}
 use Rattle.report.proofs.Ranges.{in-range-all}
 use Rattle.report.proofs.Reports.{read-good}
-use Rattle.listing.specs.Listing.{letterC, listingText, Carries, Prints, listingLimit, ListMeets}
+use Rattle.listing.specs.Listing.{letterC, listingText, Carries, Prints}
 use Rattle.listing.specs.inner.Records.{WidthsOf, recordsTo, AllPrintable, RecordsPut}
 use Rattle.listing.proofs.WidthLaws.{line-small}
 use Rattle.listing.proofs.RowLaws.{row-alike, row-range, firings-few}
@@ -111,8 +109,7 @@ module _ {numbers before : List ℕ} {records firings : ℕ} {now : List ℕ} (o
 -- A sheet's lines are refused with no line.
 pub refusal-small : (numbers before : List ℕ) (n k : ℕ) → SheetLent numbers → Refuses numbers before n k → (n ≤ 23) × (k ≡ 0)
 refusal-small numbers before n k sheet (Refuses.short h) = (omega arith, refl)
-refusal-small numbers before n k sheet (Refuses.wrong line h e) =
-    absurd (refused≢good (sym e ∙ ap sheetHeld (sheet .holds) ∙ sheetHeld-lent (sheet .lines) (sheet .sheet)))
+refusal-small numbers before n k sheet (Refuses.wrong line h e) = absurd (sheet-unrefused sheet e)
 refusal-small numbers before n k sheet (Refuses.manyShapes lines h e m) = (omega arith, refl)
 refusal-small numbers before n k sheet (Refuses.endless lines t u) = (omega arith, refl)
 refusal-small numbers before n k sheet (Refuses.manyRecords lines t d b m) = (omega arith, refl)
@@ -128,12 +125,3 @@ pub read-prints : (text before after : List ℕ) → length before ≡ 13104 →
     → (p : List ℕ) → Carries (take (8 * n) after) p → Prints text p
 read-prints text before after room n m p j =
     let g = read-good text before after room n m in Prints.read (g .lines) (g .read) (rw (g .held-is) at j)
-
--- ---- the whole output
-
-pub listed : (text before : List ℕ) (n : ℕ) (after : List ℕ) → listingLimit ≤ length before → Filled (Prints text) before n after
-    → ListMeets text before (good n) after
-listed text before n after room f = (
-  room,
-  (f .printed, f .right, f .count, f .output ∙ ap (λ (k : ℕ). f .printed ++ drop k before) (zero-add (length (f .printed)) ∙ sym (f .count))),
-)

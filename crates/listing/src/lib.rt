@@ -7,7 +7,7 @@ ghost use Rattle.columns.specs.Column.{put};
 ghost use Rattle.sheet.specs.Line.{render, textOf};
 ghost use Rattle.rules.specs.Table.{SheetHeld, linesIn};
 ghost use Rattle.report.specs.Lines.{lineText};
-ghost use Rattle.report.specs.Report.{refusalText, reportSays};
+ghost use Rattle.report.specs.Report.{reportSays};
 ghost use Rattle.report.specs.inner.Promises.{SheetLent, Filled};
 ghost use Rattle.listing.specs.Listing.{letterC, Carries, Prints, ListMeets};
 ghost use Rattle.listing.specs.inner.Records.{WidthsOf, widthAt, recordAt, recordsTo, Printable, AllPrintable, RecordsPut};
@@ -103,16 +103,6 @@ fn fill_totals(totals: Totals, widths: &[u32; 65], records: &[u32], text: &mut [
     fill_records(widths, records, totals.records, text)
 }
 
-// Puts a refusal; says how many bytes it has.
-fn fill_refusal(number: usize, line: usize, text: &mut [u8]) -> usize
-    requires { ⌜ (number ≤ 99999999) × (line ≤ 99999999) × (266260 ≤ length (now text)) ⌝ }
-    ensures { λ r. ⌜ Filled (λ p. p ≡ refusalText number line) (now (text .entry)) r (now (text .exit)) ⌝ }
-{
-    let numbers = [number, line];
-    report::put_line(b'N', &numbers, text, 0);
-    20
-}
-
 // Carries the rules of a sheet's lines out and puts what is to be printed; says how many bytes it has.
 fn list_lines(lines: &[u32], text: &mut [u8]) -> usize
     requires { ⌜ SheetLent (now lines) × (266260 ≤ length (now text)) ⌝ }
@@ -126,7 +116,8 @@ fn list_lines(lines: &[u32], text: &mut [u8]) -> usize
         }
         CarryAnswer::Refused(refusal) => {
             let said = running::refusal_numbers(refusal);
-            fill_refusal(said.number, said.line, text)
+            report::put_refusal(said.number, said.line, text);
+            20
         }
     }
 }
@@ -144,7 +135,8 @@ fn list(text: &[u8], output: &mut [u8]) -> usize
         }
         ReadAnswer::Refused(refusal) => {
             let said = sheet::refusal_numbers(refusal);
-            fill_refusal(said.number as usize, said.line, output)
+            report::put_refusal(said.number as usize, said.line, output);
+            20
         }
     }
 }

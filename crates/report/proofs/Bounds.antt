@@ -146,11 +146,14 @@ module _ (numbers before : List ℕ) (v : Verdict) (now : List ℕ) (sheet : She
 
 -- ---- refusals
 
+-- The lines of a sheet are not refused as none.
+pub sheet-unrefused : {numbers : List ℕ} {n k : ℕ} → SheetLent numbers → sheetHeld numbers ≡ refused n k → ⊥
+sheet-unrefused sheet e = refused≢good (sym e ∙ ap sheetHeld (sheet .holds) ∙ sheetHeld-lent (sheet .lines) (sheet .sheet))
+
 -- Judge refuses a sheet's lines with no line.
 pub refusal-small : (numbers before : List ℕ) (n k : ℕ) → SheetLent numbers → Refuses shapeLimit numbers before n k → (n ≤ 12) × (k ≡ 0)
 refusal-small numbers before n k sheet (Refuses.short h) = (omega arith, refl)
-refusal-small numbers before n k sheet (Refuses.wrong line h e) =
-    absurd (refused≢good (sym e ∙ ap sheetHeld (sheet .holds) ∙ sheetHeld-lent (sheet .lines) (sheet .sheet)))
+refusal-small numbers before n k sheet (Refuses.wrong line h e) = absurd (sheet-unrefused sheet e)
 refusal-small numbers before n k sheet (Refuses.many lines h e m) = (omega arith, refl)
 
 length-textOf : (ls : List Line) → length ls ≤ length (textOf ls)

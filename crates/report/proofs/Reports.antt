@@ -1,12 +1,13 @@
 -- What stands at the front of the output is right to print. Assumes nothing.
 use mathlib.Core.Path.{_≡_, refl, sym, ap, _∙_}
-use mathlib.Core.List.{List, _++_}
+use mathlib.Core.List.{List, [], _∷_, _++_}
 use Prim.Native.Nat.{ℕ, _+_, _*_, _/_, _≤_}
 use native.Mathlib.Nat.{zero-add}
 use native.Mathlib.Omega.{arith}
 use lib.ListN.{length, take, drop}
 use lib.Seq.{take-at}
 use Rattle.patterns.specs.Outcome.{Outcome, good, refused, mapGood, counted, held}
+use Rattle.columns.specs.Column.{largestNumber}
 use Rattle.sheet.specs.Line.{Line, lentOf}
 use Rattle.sheet.specs.Answer.{refusalNumber, refusalLine}
 use Rattle.sheet.specs.Read.{readOf, ReadMeets}
@@ -15,12 +16,35 @@ use Rattle.sheet.specs.declared.ReadAnswer.the-variants.{Lines, Refused}
 use Rattle.sheet.proofs.Sheets.{length-lentOf, refused≢good}
 use Rattle.sheet.proofs.Theorems.{read-exactly}
 use Rattle.chase.specs.Judge.{Judgement, JudgeMeets, stepLimit, shapeLimit}
-use Rattle.report.specs.Report.{judgementText, Judges, Prints, lineLimit, reportLimit, ReportMeets}
+use Rattle.report.specs.Lines.{PutMeets}
+use Rattle.report.specs.Report.{letterN, refusalText, judgementText, Judges, Prints, lineLimit}
 use Rattle.report.specs.inner.Promises.{SheetLent, Filled}
+use Rattle.report.specs.declared.PutAnswer.{PutAnswer}
+use Rattle.report.proofs.Ranges.{in-range-all}
+use Rattle.report.proofs.Filling.{length-lineText, put-fits}
 
 pub filled-by : {P Q : List ℕ → Type 0} (before : List ℕ) (size : ℕ) (after : List ℕ) → ((p : List ℕ) → P p → Q p) → Filled P before size after
     → Filled Q before size after
 filled-by before size after f h = record { printed = h .printed; right = f (h .printed) (h .right); count = h .count; output = h .output }
+
+-- A refusal's line is put where there is room for its 20 bytes.
+pub refusal-filled : (number line : ℕ) (before : List ℕ) (answer : PutAnswer) (after : List ℕ)
+    → PutMeets letterN (number ∷ line ∷ []) before 0 answer after → number ≤ largestNumber → line ≤ largestNumber → 20 ≤ length before
+    → Filled (λ p. p ≡ refusalText number line) before 20 after
+refusal-filled number line before answer after m a b room =
+    let numbers = number ∷ line ∷ [] in
+    record {
+      printed = refusalText number line;
+      right = refl;
+      count = sym (length-lineText letterN numbers);
+      output = put-fits letterN numbers before 0 answer after m (in-range-all numbers (a, (b, tt))) (omega (arith, room));
+    }
+
+-- What is filled stands before the rest, which is as it was.
+pub filled-front : {P : List ℕ → Type 0} (before : List ℕ) (n : ℕ) (after : List ℕ) → Filled P before n after
+    → (printed : List ℕ) × P printed × (n ≡ length printed) × (after ≡ printed ++ drop n before)
+filled-front before n after f =
+    (f .printed, f .right, f .count, f .output ∙ ap (λ (k : ℕ). f .printed ++ drop k before) (zero-add (length (f .printed)) ∙ sym (f .count)))
 
 -- A judgement's text.
 pub judges : (numbers lent : List ℕ) (j : Judgement) (steps : List ℕ) → length lent ≡ 5 * stepLimit → JudgeMeets shapeLimit numbers lent j steps
@@ -70,12 +94,3 @@ module _ (text before after : List ℕ) (room : length before ≡ 13104) where
           let a : refusalNumber r ≡ number = cc in
           let b : refusalLine r ≡ line = cc in
           ap (readOf text) (sym lent-room) ∙ e ∙ cc
-
--- ---- the whole output
-
-pub reported : (text before : List ℕ) (n : ℕ) (after : List ℕ) → reportLimit ≤ length before → Filled (Prints text) before n after
-    → ReportMeets text before (good n) after
-reported text before n after room f = (
-  room,
-  (f .printed, f .right, f .count, f .output ∙ ap (λ (k : ℕ). f .printed ++ drop k before) (zero-add (length (f .printed)) ∙ sym (f .count))),
-)

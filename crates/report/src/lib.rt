@@ -10,7 +10,7 @@ ghost use Rattle.sheet.specs.Line.{inRange};
 ghost use Rattle.chase.specs.Judge.{judged};
 ghost use Rattle.judging.specs.Answer.{verdictOf};
 ghost use Rattle.report.specs.Lines.{lineText, PutMeets};
-ghost use Rattle.report.specs.Report.{verdictNumbers, stepLines, refusalText, judgementText, reportSays, Judges, Prints, ReportMeets};
+ghost use Rattle.report.specs.Report.{letterN, verdictNumbers, stepLines, judgementText, reportSays, Judges, Prints, ReportMeets};
 ghost use Rattle.report.specs.inner.Promises.{SheetLent, Filled};
 use judging::Figures;
 use judging::JudgeAnswer;
@@ -104,6 +104,14 @@ pub fn put_line(letter: u8, numbers: &[usize], text: &mut [u8], at: usize) -> Pu
     PutAnswer::Bytes(9 * numbers.len() + 2)
 }
 
+// Puts a refusal at the front of lent text: N, its number and line. It has 20 bytes.
+pub fn put_refusal(number: usize, line: usize, text: &mut [u8]) -> PutAnswer
+    ensures { λ r. ⌜ PutMeets letterN (number ∷ line ∷ []) (now (text .entry)) 0 r (now (text .exit)) ⌝ }
+{
+    let numbers = [number, line];
+    put_line(b'N', &numbers, text, 0)
+}
+
 // The five numbers at `at`.
 fn step_at(steps: &[u16], at: usize) -> [usize; 5]
     requires { ⌜ at + 5 ≤ length (now steps) ⌝ }
@@ -159,16 +167,6 @@ fn fill_verdict(verdict: usize, f: Figures, steps: &[u16], text: &mut [u8]) -> u
     74 + 47 * count
 }
 
-// Puts a refusal; says how many bytes it has.
-fn fill_refusal(number: usize, line: usize, text: &mut [u8]) -> usize
-    requires { ⌜ (number ≤ 99999999) × (line ≤ 99999999) × (192586 ≤ length (now text)) ⌝ }
-    ensures { λ r. ⌜ Filled (λ p. p ≡ refusalText number line) (now (text .entry)) r (now (text .exit)) ⌝ }
-{
-    let numbers = [number, line];
-    put_line(b'N', &numbers, text, 0);
-    20
-}
-
 // Judges the lines of a sheet and puts what is to be printed of them; says how many bytes it has.
 fn report_lines(lines: &[u32], text: &mut [u8]) -> usize
     requires { ⌜ SheetLent (now lines) × (192586 ≤ length (now text)) ⌝ }
@@ -180,7 +178,8 @@ fn report_lines(lines: &[u32], text: &mut [u8]) -> usize
         JudgeAnswer::Endless(f) => fill_verdict(2, f, &steps, text),
         JudgeAnswer::Refused(refusal) => {
             let said = judging::refusal_numbers(refusal);
-            fill_refusal(said.number, said.line, text)
+            put_refusal(said.number, said.line, text);
+            20
         }
     }
 }
@@ -198,7 +197,8 @@ fn report(text: &[u8], output: &mut [u8]) -> usize
         }
         ReadAnswer::Refused(refusal) => {
             let said = sheet::refusal_numbers(refusal);
-            fill_refusal(said.number as usize, said.line, output)
+            put_refusal(said.number as usize, said.line, output);
+            20
         }
     }
 }

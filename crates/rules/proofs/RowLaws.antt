@@ -143,13 +143,17 @@ module _ (numbers widths : List ℕ) (row n : ℕ) (sheet : SheetHeld numbers) (
         rows-are = at .rows-are ∙ sym (ap (rowsTo ls) (add-one n) ∙ rows-same ls n (held .inside) (λ (q : line .letter ≡ 82). f (held .letter ∙ q)));
       }
 
-  -- An R line is the next row.
+  -- An R line has as many numbers as its kind is wide.
+  pub row-width : getD numbers (8 * n) 0 ≡ 82 → getD widths (getD numbers (8 * n + 1) 0) 0 ≡ length (line .numbers)
+  row-width e =
+      ap (λ (k : ℕ). getD widths k 0) (held .kind) ∙ at .widths-fit .each (line .kind) (held .fits .kind .1)
+      ∙ sym (held .fits .width (λ (q : line .letter ≡ 75). omega (arith, held .letter)))
+
+  -- It is the next row.
   pub row-at : getD numbers (8 * n) 0 ≡ 82 → RowAt numbers n (getD widths (getD numbers (8 * n + 1) 0) 0) (row + 1)
   row-at e =
       let letter : line .letter ≡ 82 = sym (held .letter) ∙ e in
-      let width : getD widths (getD numbers (8 * n + 1) 0) 0 ≡ length (line .numbers) =
-      ap (λ (k : ℕ). getD widths k 0) (held .kind) ∙ at .widths-fit .each (line .kind) (held .fits .kind .1)
-      ∙ sym (held .fits .width (λ (q : line .letter ≡ 75). omega arith)) in
+      let width = row-width e in
       let named : nth (rowLines ls) (suc row) ≡ some line =
       subst (λ (k : ℕ). nth (rowLines ls) (suc k) ≡ some line) (sym (at .rows-are)) (row-number ls n (held .inside) letter) in
       let b = element-below (rowLines ls) row line named in

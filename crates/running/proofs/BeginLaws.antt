@@ -24,7 +24,7 @@ use Rattle.rules.specs.inner.Bytes.{Clear}
 use Rattle.rules.specs.inner.Rows.{rowNumbers}
 use Rattle.rules.proofs.SheetLaws.{noLine, lineNo, linesBefore, LentLine, lent-line, held-lines, size-held, continues-at}
 use Rattle.rules.proofs.PartLaws.{zeros}
-use Rattle.rules.proofs.RowLaws.{Reading, reading-begun, row-at, read-row}
+use Rattle.rules.proofs.RowLaws.{Reading, reading-begun, row-width, row-at, read-row}
 use Rattle.carrying.specs.Carrying.{Row, Row-discrete, numbersIn, rowOf, tableRows}
 use Rattle.running.specs.inner.Held.{packed, unpacked, rowsAt, recordsFit, Stored, Grown}
 use Rattle.running.specs.inner.Begun.{RowsIn}
@@ -182,10 +182,7 @@ module _ {lines before index₀ widths rows index : List ℕ} {by count n : ℕ}
   -- The row at an R line, whose kind has this width.
   module _ (e : getD lines (8 * n) 0 ≡ 82) (width : ℕ) (is-width : width ≡ getD widths (getD lines (8 * n + 1) 0) 0) where
     width-is : width ≡ length (line sheet n more .numbers)
-    width-is =
-        let h = held sheet n more in
-        is-width ∙ ap (λ (k : ℕ). getD widths k 0) (h .kind) ∙ p .reading .widths-fit .each (line sheet n more .kind) (h .fits .kind .1)
-        ∙ sym (h .fits .width (λ (q : line sheet n more .letter ≡ 75). omega (arith, h .letter)))
+    width-is = is-width ∙ row-width lines widths (p .row) n sheet (p .reading) more e
 
     pub width-few : width ≤ 6
     width-few = omega (arith, width-is, held sheet n more .fits .few)

@@ -1,18 +1,11 @@
 -- Laws of the buckets. Assumes nothing.
 use mathlib.Core.Path.{_≡_, refl, sym, _∙_, ap}
-use mathlib.Core.List.{List, [], _∷_}
-use Prim.Native.Nat.{ℕ, zero, suc, _+_, _*_, _/_, _%_, _≤_, _<_}
-use native.Mathlib.Nat.{mul-le-mul-right}
+use mathlib.Core.List.{List}
+use Prim.Native.Nat.{ℕ, suc, _+_, _≤_, _<_}
 use native.Mathlib.Omega.{arith}
 use lib.ListN.{length, getD, drop, drop-of-length-le}
 use lib.Seq.{drop-cons}
 use Rattle.running.specs.inner.Chains.{mixed, bucketIn, mixedAll, bucketOf}
-
--- What is multiplied fits 64 bits.
-pub product-small : (a b : ℕ) → a < 8589934592 → b < 2147483648 → a * b < 18446744073709551616
-product-small a b h l =
-    let m : a * b ≤ 8589934591 * b = mul-le-mul-right b (omega arith) in
-    omega arith
 
 pub bucket-small : (h : ℕ) → h < 4294967296 → bucketIn h < 4096
 bucket-small h l = omega arith

@@ -1,7 +1,6 @@
 -- The laws that the proofs of this crate rest on.
 pub mod BeginLaws
 pub mod CarryLaws
-pub mod ChainLaws
 pub mod CopyLaws
 pub mod CountLaws
 pub mod FiringLaws

@@ -23,7 +23,7 @@ use Rattle.rules.proofs.RuleLaws.{RowFits, row-fits}
 use Rattle.carrying.specs.Carrying.{Row, Pair, FiresOn, pairOf}
 use Rattle.chase.proofs.ListLaws.{map-same}
 use Rattle.running.specs.inner.Chains.{mixed, bucketIn, Chains, FoundAt}
-use Rattle.running.proofs.ChainLaws.{chains-alike, Searching, search-begin, search-place, search-next, search-less, found-here, found-nowhere}
+use Rattle.chains.proofs.ChainLaws.{chains-alike, Searching, search-begin, search-place, search-next, search-less, found-here, found-nowhere}
 use Rattle.running.specs.inner.Held.{unpacked, PackedRow, rowAt, section}
 use Rattle.running.specs.inner.Firing.{ruleAt, rowNo, RecordIn}
 use Rattle.running.specs.inner.Pairs.{mixedFrom, pairBucket, SameCarried, ruleOf, recordOf, IsPair, bucketOfPair, RecordsIn, Noted, InBucket, pairsAt}

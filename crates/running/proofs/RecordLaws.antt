@@ -16,8 +16,8 @@ use Rattle.sheet.proofs.FormLaws.{take-padded}
 use Rattle.chase.specs.Lists.{In}
 use Rattle.rules.specs.inner.Bytes.{Part}
 use Rattle.carrying.specs.Carrying.{Row, Row-discrete}
-use Rattle.running.specs.inner.Chains.{room, bucketOf, Chains}
-use Rattle.running.proofs.ChainLaws.{chains-push, chains-alike}
+use Rattle.running.specs.inner.Chains.{bucketOf, Chains}
+use Rattle.chains.proofs.ChainLaws.{chains-push, chains-alike}
 use Rattle.running.specs.inner.Held.{packed, unpacked, PackedRow, rowAt, bucketAt, rowsAt, section, Stored, Grown}
 
 -- ---- lists

@@ -19,7 +19,7 @@ use Rattle.rules.proofs.RuleLaws.{RowFits, row-fits}
 use Rattle.carrying.specs.Carrying.{Row, Row-discrete, Pair, Pair-discrete, State, FiresOn, firesOn?, freshMarks, pairOf, fired}
 use Rattle.carrying.proofs.ListLaws.{begins-addAll, begins-length}
 use Rattle.running.specs.inner.Chains.{Chains, FoundAt}
-use Rattle.running.proofs.ChainLaws.{chains-alike}
+use Rattle.chains.proofs.ChainLaws.{chains-alike}
 use Rattle.running.specs.inner.Held.{unpacked, rowAt, bucketAt, rowsAt, section, Stored, Grown}
 use Rattle.running.specs.inner.Firing.{ruleAt, rowNo, RecordIn, Ready, withMade}
 use Rattle.running.specs.inner.Pairs.{pairBucket, SameCarried, ruleOf, recordOf, IsPair, bucketOfPair, RecordsIn, Noted, pairsAt}

@@ -1,4 +1,4 @@
-// Numbers mixed under a multiplier, for the buckets in which records and pairs are looked up. The multiplier is drawn from the sheet's own rows: for a fixed one there are tables whose records all fall into one bucket.
+// Numbers mixed under a multiplier, for the buckets in which records and pairs are looked up.
 ghost use mathlib.Core.Path.{_≡_};
 ghost use Prim.Native.Nat.{_<_};
 ghost use Rattle.running.specs.inner.Chains.{mixed};

@@ -9,7 +9,6 @@ ghost use Rattle.rules.specs.inner.Rows.{rowNumbers};
 ghost use Rattle.carrying.specs.Carrying.{numbersIn, tableRows};
 ghost use Rattle.running.specs.inner.Held.{packed, recordsFit};
 ghost use Rattle.running.specs.inner.Begun.{RowsIn, Begun};
-use crate::hash::mix;
 use crate::records::add;
 use crate::visits::Counts;
 use crate::wide;
@@ -47,20 +46,6 @@ fn largest_value(lines: &[u32]) -> usize
         n += 1;
     }
     t
-}
-
-// A multiplier for the hash, drawn from the first number of each line.
-fn multiplier(lines: &[u32]) -> usize
-    requires { ⌜ SheetHeld (now lines) ⌝ }
-    ensures { λ by. ⌜ by < 2147483648 ⌝ }
-{
-    let mut h: usize = 1;
-    let mut n: usize = 0;
-    while 8 * n < lines.len() {
-        h = mix(1640531527, h, wide::of_u32(lines[8 * n + 2]));
-        n += 1;
-    }
-    1073741825 + h % 536870912 * 2
 }
 
 // The seven numbers of the row at line `n`, whose kind has this width.
@@ -106,7 +91,7 @@ pub(crate) fn begin(lines: &[u32], rows: &mut [u32], index: &mut [u16]) -> Count
     ensures { λ c. ⌜ Begun (now (lines .entry)) (now (rows .entry)) (now (rows .exit)) (now (index .exit)) c ⌝ }
 {
     let next = largest_value(lines) + 1;
-    let by = multiplier(lines);
+    let by = chains::multiplier(lines);
     let count = put_rows(lines, rows, index, by);
     Counts {
         rows: count,

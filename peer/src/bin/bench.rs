@@ -1,27 +1,28 @@
 //! Times the proved library against the peer on the same inputs in one run, reading
-//! and judging apart, and prints a table; then carrying out, with rows and rules in three
-//! orders; then judging as shapes and rules grow.
+//! and judging apart, and prints a table; then carrying out and forecasting, with rows and
+//! rules in three orders; then judging as shapes and rules grow.
 //!
-//!     bench [--svg FILE] [--quick] [--carrying]
+//!     bench [--svg FILE] [--quick] [--carrying] [--forecasting]
 //!
 //! `--svg` also draws the times by the number of rules and of shapes. `--carrying` prints the
-//! table of carrying out alone.
+//! table of carrying out alone, `--forecasting` those of forecasting alone.
 
 #[path = "bench/chart.rs"]
 mod chart;
-#[allow(dead_code)] // reading, judging and carrying out only
+#[allow(dead_code)] // reading, judging, carrying out and forecasting only
 #[path = "../library.rs"]
 mod library;
 #[path = "bench/timing.rs"]
 mod timing;
 
 use chart::{drawn, Panel, Style};
-use peer::random::series::{self, End, Order};
+use peer::random::series::{self, End, Family, Order};
 use peer::random::sheets::Sheet;
-use peer::random::{carrying_series, Random};
+use peer::random::{carrying_series, forecasting_series, Random};
 use std::process::ExitCode;
 use std::{env, fs};
-use timing::{carry_times, growing_times, judge_times, read_times, Effort, Ready, Times};
+use timing::{carry_times, forecast_times, forecast_to_judge, growing_times, judge_times};
+use timing::{read_times, Effort, Ready, Times};
 
 const SEED: u64 = 7;
 
@@ -66,14 +67,72 @@ fn print_carrying(effort: &Effort) {
     let mut random = Random::new(SEED);
     for family in carrying_series::families(&mut random) {
         let times = ORDERS.map(|order| {
-            let sheets = family.sheets.iter().cloned();
-            let ordered = sheets.map(|sheet| carrying_series::in_order(&mut random, sheet, order));
-            let ready: Vec<Ready> = ordered.map(|sheet| Ready::new(&sheet)).collect();
+            let ready = in_order(&mut random, &family, order);
             cells(carry_times(effort, &ready))
         });
         let counts = run_counts(&family.sheets);
         println!("| {} | {counts} | {} |", family.name, times.join(" | "));
     }
+}
+
+/// The sheets of a family with their rows and rules in this order.
+fn in_order(random: &mut Random, family: &Family, order: Order) -> Vec<Ready> {
+    let sheets = family.sheets.iter().cloned();
+    let ordered = sheets.map(|sheet| carrying_series::in_order(random, sheet, order));
+    ordered.map(|sheet| Ready::new(&sheet)).collect()
+}
+
+/// Forecasting: sheets of its own and those of carrying out and of judging, the first two in
+/// each order of rows and rules.
+fn print_forecasting(effort: &Effort) {
+    println!("\nForecasting: microseconds a sheet, rows and rules in order, shuffled, reversed;");
+    println!("to judging: the library's forecasting / its judging of the same sheets, median;");
+    println!("foretold: how many sheets are not refused, and how many have a figure beyond.\n");
+    let part = "library | peer | ratio | to judging";
+    println!("| sheets | foretold | beyond | {part} | shuffled: {part} | reversed: {part} |");
+    println!("|---|---:|---:|{}", "---:|".repeat(12));
+    let mut random = Random::new(SEED);
+    let mut most: f64 = 0.0;
+    let own = forecasting_series::families();
+    let carrying = carrying_series::families(&mut random);
+    for family in own.iter().chain(&carrying) {
+        let times = ORDERS.map(|order| {
+            let ready = in_order(&mut random, family, order);
+            forecast_cells(effort, &ready, &mut most)
+        });
+        let counts = forecast_counts(&family.sheets);
+        println!("| {} | {counts} | {} |", family.name, times.join(" | "));
+    }
+    println!("\nThe sheets of judging, as they stand:\n");
+    println!("| sheets | foretold | beyond | {part} |");
+    println!("|---|---:|---:|---:|---:|---:|---:|");
+    for family in series::families(&mut Random::new(SEED)) {
+        let ready: Vec<Ready> = family.sheets.iter().map(Ready::new).collect();
+        let times = forecast_cells(effort, &ready, &mut most);
+        let counts = forecast_counts(&family.sheets);
+        println!("| {} | {counts} | {times} |", family.name);
+    }
+    println!("\nForecasting takes the library at most {most:.2} times as long as judging.");
+}
+
+fn forecast_cells(effort: &Effort, sheets: &[Ready], most: &mut f64) -> String {
+    let times = forecast_times(effort, sheets);
+    let to_judging = forecast_to_judge(effort, sheets);
+    *most = most.max(to_judging);
+    format!("{} | {to_judging:.2}", cells(times))
+}
+
+/// How many sheets are foretold, and how many of them with a figure beyond.
+fn forecast_counts(sheets: &[Sheet]) -> String {
+    let all = sheets
+        .iter()
+        .filter_map(|sheet| Ready::new(sheet).forecast());
+    let all: Vec<peer::Forecast> = all.collect();
+    let beyond = all.iter().filter(|forecast| {
+        let figures = [forecast.values, forecast.records, forecast.pairs];
+        figures.contains(&None)
+    });
+    format!("{} of {} | {}", all.len(), sheets.len(), beyond.count())
 }
 
 /// How many records and firings there are in all.
@@ -266,8 +325,13 @@ fn main() -> ExitCode {
         print_carrying(&effort);
         return ExitCode::SUCCESS;
     }
+    if words.iter().any(|word| word == "--forecasting") {
+        print_forecasting(&effort);
+        return ExitCode::SUCCESS;
+    }
     print_families(&effort);
     print_carrying(&effort);
+    print_forecasting(&effort);
     let growths = growths(&effort);
     growths.iter().for_each(print_growth);
     let file = words

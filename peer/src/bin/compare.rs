@@ -4,15 +4,15 @@
 //!     compare [--seed N] [--count N] [--only N] [--progress] [--statistics]
 //!
 //! `--only` takes one input of a run, by its number; without it, sheets at the limits of
-//! carrying out come first. Exit status 1 on a difference, whose input is then written to
-//! a file.
+//! carrying out and of forecasting come first. Exit status 1 on a difference, whose input is
+//! then written to a file.
 
 #[path = "../library.rs"]
 mod library;
 
-use library::{CarryReply, JudgeReply, Reply, Span, Step};
-use peer::random::{bytes_of, carrying, Input, Random};
-use peer::{Refusal, Run, Verdict};
+use library::{CarryReply, ForecastReply, JudgeReply, Reply, Span, Step};
+use peer::random::{bytes_of, carrying, forecasting, Input, Random};
+use peer::{Figure, Forecast, Left, Refusal, Run, Verdict};
 use std::panic::{catch_unwind, AssertUnwindSafe};
 use std::process::ExitCode;
 use std::time::Instant;
@@ -113,6 +113,12 @@ struct Tally {
     records: usize,
     firings: usize,
     full: usize,
+    foretold: [usize; 24],
+    beyond: [usize; 3],
+    any_beyond: usize,
+    largest: usize,
+    ended: usize,
+    met: [usize; 3],
     endless: usize,
     halves: usize,
     chased: usize,
@@ -230,6 +236,59 @@ fn carry_reply(peer: &Result<Run, Refusal>) -> CarryReply {
         line,
         records: of(|run| run.records.len()),
         firings: of(|run| run.firings),
+    }
+}
+
+/// Forecasts by both; what both foretell is also held to runs.
+fn compare_forecast(random: &mut Random, input: &Input, tally: &mut Tally) -> Result<(), String> {
+    let library = library::forecast(&input.lines);
+    let numbers = numbers_of(&input.lines);
+    let peer = peer::forecast(&numbers);
+    same("forecast", library, forecast_reply(&peer))?;
+    tally.foretold[library.refusal as usize] += 1;
+    if let Ok(forecast) = peer {
+        let left = peer::verify_forecast(&numbers, &forecast, random);
+        let left = left.map_err(|e| format!("forecast: not so: {e}"))?;
+        tally.count_forecast(&forecast, left);
+    }
+    compare_last_part(random, input)
+}
+
+/// The same lines with some bytes less or more: the last line or its last number is not whole.
+fn compare_last_part(random: &mut Random, input: &Input) -> Result<(), String> {
+    let mut lines = input.lines.clone();
+    let part = random.between(1, 31);
+    let less = random.chance(50);
+    if less {
+        lines.truncate(lines.len().saturating_sub(part));
+    } else {
+        lines.extend(random.bytes(part));
+    }
+    let peer = peer::forecast(&numbers_of(&lines));
+    let library = library::forecast(&lines);
+    let what = format!(
+        "forecast, {part} bytes {}",
+        if less { "less" } else { "more" }
+    );
+    same(&what, library, forecast_reply(&peer))
+}
+
+fn forecast_reply(peer: &Result<Forecast, Refusal>) -> ForecastReply {
+    let (refusal, line) = match peer {
+        Err(refusal) => (refusal.number, refusal.line),
+        Ok(_) => (0, 0),
+    };
+    let beyond = u64::from(u32::MAX) + 1;
+    let of = |figure: fn(&Forecast) -> Figure| match peer {
+        Err(_) => 0,
+        Ok(forecast) => figure(forecast).map_or(beyond, u64::from),
+    };
+    ForecastReply {
+        refusal,
+        line,
+        values: of(|forecast| forecast.values),
+        records: of(|forecast| forecast.records),
+        pairs: of(|forecast| forecast.pairs),
     }
 }
 
@@ -366,6 +425,7 @@ fn compare(random: &mut Random, input: &Input, tally: &mut Tally) -> Result<(), 
     compare_pattern(input, tally)?;
     compare_judge(random, input, tally)?;
     compare_carry(random, input, tally)?;
+    compare_forecast(random, input, tally)?;
     compare_text(random, input)?;
     compare_lines(input)
 }
@@ -381,6 +441,23 @@ impl Tally {
             trail: reply.trail,
             turns: reply.turns,
         });
+    }
+
+    fn count_forecast(&mut self, forecast: &Forecast, left: Option<Left>) {
+        let figures = [forecast.values, forecast.records, forecast.pairs];
+        self.any_beyond += usize::from(figures.contains(&None));
+        for (beyond, figure) in self.beyond.iter_mut().zip(figures) {
+            *beyond += usize::from(figure.is_none());
+            self.largest += usize::from(figure == Some(u32::MAX));
+        }
+        let Some(left) = left else {
+            return;
+        };
+        self.ended += 1;
+        let counts = [left.values, left.records, left.pairs];
+        for ((met, figure), count) in self.met.iter_mut().zip(figures).zip(counts) {
+            *met += usize::from(figure.is_some_and(|figure| figure as usize == count));
+        }
     }
 
     fn print_statistics(&self) {
@@ -409,6 +486,14 @@ impl Tally {
         self.print_spread("trail, endless", |f| f.endless.then_some(f.trail));
         self.print_spread("loop, endless", |f| f.endless.then_some(f.turns));
         self.print_spread("shapes", |f| Some(f.shapes));
+        let of = |[values, records, pairs]: [usize; 3]| {
+            format!("values {values}, records {records}, pairs {pairs}")
+        };
+        println!("forecast, beyond: {}", of(self.beyond));
+        println!(
+            "forecast, met exactly by a run to the end: {}",
+            of(self.met)
+        );
     }
 
     /// How many sheets have the figure 0, 1, 2 to 3, 4 to 7 and so on.
@@ -444,7 +529,9 @@ impl fmt::Display for Tally {
             f,
             "read {}; write {}; pattern {}; judge {}; {} settle, {} endless, {} chased to the end, \
              {} shares at a half; \
-             carry {}; {} records by {} firings, {} times exactly 4,096 records",
+             carry {}; {} records by {} firings, {} times exactly 4,096 records; \
+             forecast {}; {} with a figure beyond, {} times exactly 4,294,967,295, \
+             {} held to a run to the end, {} figures met exactly",
             counts(&self.read),
             counts(&self.written),
             counts(&self.patterns),
@@ -457,6 +544,11 @@ impl fmt::Display for Tally {
             self.records,
             self.firings,
             self.full,
+            counts(&self.foretold),
+            self.any_beyond,
+            self.largest,
+            self.ended,
+            self.met.iter().sum::<usize>(),
         )
     }
 }
@@ -526,6 +618,22 @@ fn run_limits(seed: u64, tally: &mut Tally) -> Result<usize, String> {
     Ok(limits.len() * carrying::ROOMS.len())
 }
 
+/// Compares the sheets at the limits of forecasting; gives their count.
+fn run_forecast_limits(seed: u64, tally: &mut Tally) -> Result<usize, String> {
+    let limits = forecasting::limits();
+    for (number, limit) in limits.iter().enumerate() {
+        let input = Input::of_lines(limit.name, &limit.lines, 32 * MOST_RECORDS);
+        let mut random = Random::of_input(seed, number as u64);
+        let name = format!("forecast-{number}");
+        run_input(&mut random, &input, &name, seed, tally)?;
+        let peer = peer::forecast(limit.lines.as_flattened());
+        let peer = peer.map(|forecast| [forecast.values, forecast.records, forecast.pairs]);
+        let peer = peer.map_err(|refusal| (refusal.number, refusal.line));
+        same(limit.name, peer, limit.wanted)?;
+    }
+    Ok(limits.len())
+}
+
 /// Compares an input; on a difference, says which and writes the input to a file.
 fn run_input(
     random: &mut Random,
@@ -579,10 +687,13 @@ fn main() -> ExitCode {
     let mut tally = Tally::default();
     let start = Instant::now();
     let limits = match options.only {
-        true => Ok(0),
-        false => run_limits(options.seed, &mut tally),
+        true => Ok((0, 0)),
+        false => run_limits(options.seed, &mut tally).and_then(|carrying| {
+            let forecasting = run_forecast_limits(options.seed, &mut tally)?;
+            Ok((carrying, forecasting))
+        }),
     };
-    let limits = match limits {
+    let (carrying, forecasting) = match limits {
         Ok(limits) => limits,
         Err(difference) => {
             println!("seed {}: {difference}", options.seed);
@@ -603,7 +714,8 @@ fn main() -> ExitCode {
         tally.print_statistics();
     }
     println!(
-        "seed {}, {} inputs and {limits} at the limits of carrying out: {tally}; 0 differences",
+        "seed {}, {} inputs, {carrying} at the limits of carrying out and {forecasting} at those \
+         of forecasting: {tally}; 0 differences",
         options.seed, options.count
     );
     ExitCode::SUCCESS

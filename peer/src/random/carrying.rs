@@ -34,7 +34,7 @@ pub fn random(random: &mut Random) -> (&'static str, Sheet) {
 }
 
 /// A number from 1 to `most`, small ones as often as large ones.
-fn any_size(random: &mut Random, most: usize) -> usize {
+pub(super) fn any_size(random: &mut Random, most: usize) -> usize {
     let high = (most + 1) >> random.below(11);
     random.between(1, high.clamp(1, most))
 }
@@ -323,7 +323,7 @@ pub fn limits() -> Vec<Limit> {
 }
 
 /// Lent lines of a sheet written like "K 1 2; B 1 1 2; H 1 2 3; R 1 7 8".
-fn lines_of(form: &str) -> Vec<Line> {
+pub(super) fn lines_of(form: &str) -> Vec<Line> {
     let line = |words: &str| {
         let (letter, rest) = words.split_at(1);
         let mut line = [0; 8];

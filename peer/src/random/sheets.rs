@@ -485,7 +485,7 @@ fn state(kind: Kind, first: [u32; 2], way: [u32; 4]) -> Entry {
 
 /// Kinds in a row, each with seven ways one after the other; in each way a number leads
 /// to a fresh one, and that to another in the next way.
-fn states(random: &mut Random) -> Sheet {
+pub fn states(random: &mut Random) -> Sheet {
     let count = length(random).min(32);
     let mut sheet = Sheet::new(some_kinds(random, count, 6, 6));
     let made = random.pick(&[[FRESH, 2], [FRESH, 2], [2, FRESH]]);

@@ -2,6 +2,8 @@ mod answers;
 mod carry;
 mod carrying;
 mod common;
+mod forecast;
+mod forecasting;
 mod generator;
 mod refusals;
 mod series;

@@ -2,8 +2,7 @@
 use mathlib.Core.Path.{refl}
 use native.Mathlib.Omega.{arith}
 use borrow.Author.Needs.{needs}
-use denote.Ref.{now}
-use Rattle.listing.proofs.ListLaws.{listed}
+use Rattle.report.proofs.Reports.{filled-front}
 use Rattle.listing.proofs.carry_text.Statement.{statement}
 use Rattle.listing.proofs.carry_text.Tie as tie
 
@@ -18,8 +17,7 @@ same-length c = search needs
 
 returns-2 : tie.Need-returns-2
 returns-2 c =
-    let s = c .before .before .before .before .before .before .before in
-    listed (now (s .args .text)) (now (s .args .output)) (c .before .before .list .result) _ (omega (arith, c .before .before .before .before .if1 .left)) (c .before .before .list .ensures)
+    (omega (arith, c .before .before .before .before .if1 .left), filled-front _ (c .before .before .list .result) _ (c .before .before .list .ensures))
 
 pub carry-text-spec : {M : Type 1} → statement M
 carry-text-spec = tie.close (tie.spec returns list-requires same-length returns-2)

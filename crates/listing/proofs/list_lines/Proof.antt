@@ -9,7 +9,7 @@ use Rattle.carrying.specs.Contract.{Carried, carried, refuses, CarryMeets}
 use Rattle.running.specs.Answer.{carrySays, carryRefusalNumber, carryRefusalLine}
 use Rattle.running.specs.declared.CarryAnswer.{CarryAnswer}
 use Rattle.report.specs.Report.{refusalText}
-use Rattle.report.proofs.Reports.{filled-by}
+use Rattle.report.proofs.Reports.{filled-by, refusal-filled}
 use Rattle.listing.proofs.ListLaws.{out-sheet, out-printable, out-firings, out-carries, refusal-small, refused-carries}
 use Rattle.listing.proofs.list_lines.Statement.{statement}
 use Rattle.listing.proofs.list_lines.Tie as tie
@@ -66,11 +66,8 @@ enum-known-refusal c = search needs
 refusal-numbers-requires : tie.Need-refusal-numbers-requires
 refusal-numbers-requires c κs = search needs
 
-fill-refusal-requires : tie.Need-fill-refusal-requires
-fill-refusal-requires c κs =
-    let q = c .before .before .before in
-    let said = c .before .refusal-numbers .ensures in
-    (omega (arith, said .0, said .1, small q .0, small q .1), omega (arith, said .0, said .1, small q .0, small q .1), omega (arith, start (q .before .before .before) .pre .1))
+put-refusal-requires : tie.Need-put-refusal-requires
+put-refusal-requires c κs = search needs
 
 same-length : tie.Need-same-length
 same-length c = search needs
@@ -91,7 +88,8 @@ returns-2 c =
     let said = c .before .before .before .before .refusal-numbers .ensures in
     filled-by _ _ _
     (λ p e. refused-carries _ (lent j) _ _ (j .carry-out .last .1 .0) (j .before .before .room-for-records .ensures) (refused q) p (e ∙ ap₂ refusalText (said .0) (said .1)))
-    (c .before .before .fill-refusal .ensures)
+    (refusal-filled _ _ _ _ _ (c .before .before .put-refusal .ensures)
+    (omega (arith, said .0, small q .0)) (omega (arith, said .1, small q .1)) (omega (arith, start j .pre .1)))
 
 pub list-lines-spec : {M : Type 1} → statement M
 list-lines-spec =
@@ -106,7 +104,7 @@ list-lines-spec =
     fill-totals-requires
     enum-known-refusal
     refusal-numbers-requires
-    fill-refusal-requires
+    put-refusal-requires
     same-length
     returns
     same-length-2

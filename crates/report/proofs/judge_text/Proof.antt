@@ -2,8 +2,7 @@
 use mathlib.Core.Path.{refl}
 use native.Mathlib.Omega.{arith}
 use borrow.Author.Needs.{needs}
-use denote.Ref.{now}
-use Rattle.report.proofs.Reports.{reported}
+use Rattle.report.proofs.Reports.{filled-front}
 use Rattle.report.proofs.judge_text.Statement.{statement}
 use Rattle.report.proofs.judge_text.Tie as tie
 
@@ -18,8 +17,7 @@ same-length c = search needs
 
 returns-2 : tie.Need-returns-2
 returns-2 c =
-    let s = c .before .before .before .before .before .before .before in
-    reported (now (s .args .text)) (now (s .args .output)) (c .before .before .report .result) _ (omega (arith, c .before .before .before .before .if1 .left)) (c .before .before .report .ensures)
+    (omega (arith, c .before .before .before .before .if1 .left), filled-front _ (c .before .before .report .result) _ (c .before .before .report .ensures))
 
 pub judge-text-spec : {M : Type 1} → statement M
 judge-text-spec = tie.close (tie.spec returns report-requires same-length returns-2)

@@ -14,7 +14,7 @@ use Rattle.sheet.specs.declared.ReadAnswer.the-variants.{Lines, Refused}
 use Rattle.report.specs.Report.{refusalText, Prints}
 use Rattle.sheet.proofs.Counts.{read-counts}
 use Rattle.report.proofs.Bounds.{read-refusal-small}
-use Rattle.report.proofs.Reports.{filled-by, read-sheet, read-prints, read-refused}
+use Rattle.report.proofs.Reports.{filled-by, refusal-filled, read-sheet, read-prints, read-refused}
 use Rattle.report.proofs.report.Statement.{statement}
 use Rattle.report.proofs.report.Tie as tie
 
@@ -77,15 +77,11 @@ enum-known-refusal c = search needs
 refusal-numbers-requires : tie.Need-refusal-numbers-requires
 refusal-numbers-requires c κs = search needs
 
-cast-fill-refusal : tie.Need-cast-fill-refusal
-cast-fill-refusal c = search needs
+cast-put-refusal : tie.Need-cast-put-refusal
+cast-put-refusal c = search needs
 
-fill-refusal-requires : tie.Need-fill-refusal-requires
-fill-refusal-requires c κs =
-    let said = c .before .before .refusal-numbers .ensures in
-    let q = c .before .before .before .before in
-    let small = read-refusal-small _ 1638 _ _ (omega arith) (unread q) in
-    (omega (arith, said .0, small .0), omega (arith, said .1, small .1), omega (arith, start (q .before .before .before) .pre))
+put-refusal-requires : tie.Need-put-refusal-requires
+put-refusal-requires c κs = search needs
 
 same-length : tie.Need-same-length
 same-length c = search needs
@@ -102,7 +98,10 @@ returns-2 : tie.Need-returns-2
 returns-2 c =
     let said = c .before .before .before .before .before .refusal-numbers .ensures in
     let q = c .before .before .before .before .before .before .before in
-    filled-by _ _ _ (λ p e. Prints.unread _ _ (unread q) (e ∙ ap₂ refusalText (said .0) (said .1))) (c .before .before .fill-refusal .ensures)
+    let small = read-refusal-small _ 1638 _ _ (omega arith) (unread q) in
+    filled-by _ _ _ (λ p e. Prints.unread _ _ (unread q) (e ∙ ap₂ refusalText (said .0) (said .1)))
+    (refusal-filled _ _ _ _ _ (c .before .before .put-refusal .ensures)
+    (omega (arith, said .0, small .0)) (omega (arith, said .1, small .1)) (omega (arith, start (q .before .before .before) .pre)))
 
 pub report-spec : {M : Type 1} → statement M
 report-spec =
@@ -118,8 +117,8 @@ report-spec =
     report-lines-requires
     enum-known-refusal
     refusal-numbers-requires
-    cast-fill-refusal
-    fill-refusal-requires
+    cast-put-refusal
+    put-refusal-requires
     same-length
     returns
     same-length-2

@@ -10,7 +10,7 @@ use Rattle.judging.specs.Answer.{verdictOf, judgeSays, judgeRefusalNumber, judg
 use Rattle.judging.specs.declared.JudgeAnswer.{JudgeAnswer}
 use Rattle.report.specs.Report.{refusalText}
 use Rattle.report.proofs.Bounds.{figures-in-range, refusal-small}
-use Rattle.report.proofs.Reports.{filled-by, judges}
+use Rattle.report.proofs.Reports.{filled-by, refusal-filled, judges}
 use Rattle.report.proofs.report_lines.Statement.{statement}
 use Rattle.report.proofs.report_lines.Tie as tie
 
@@ -88,11 +88,8 @@ enum-known-refusal c = search needs
 refusal-numbers-requires : tie.Need-refusal-numbers-requires
 refusal-numbers-requires c κs = search needs
 
-fill-refusal-requires : tie.Need-fill-refusal-requires
-fill-refusal-requires c κs =
-    let q = c .before .before .before in
-    let said = c .before .refusal-numbers .ensures in
-    (omega (arith, said .0, said .1, small q .0, small q .1), omega (arith, said .0, said .1, small q .0, small q .1), omega (arith, start (q .before .before .before) .pre .1))
+put-refusal-requires : tie.Need-put-refusal-requires
+put-refusal-requires c κs = search needs
 
 same-length : tie.Need-same-length
 same-length c = search needs
@@ -123,7 +120,8 @@ returns-3 c =
     filled-by _ _ _
     (λ p e. judges _ (lent j) (refuses (judgeRefusalNumber (q .refusal .given .0 .0)) (judgeRefusalLine (q .refusal .given .0 .0))) (j .judge .last .1 .0)
     (j .before .before .room-for-steps .ensures) (refused q) p (e ∙ ap₂ refusalText (said .0) (said .1)))
-    (c .before .before .fill-refusal .ensures)
+    (refusal-filled _ _ _ _ _ (c .before .before .put-refusal .ensures)
+    (omega (arith, said .0, small q .0)) (omega (arith, said .1, small q .1)) (omega (arith, start j .pre .1)))
 
 pub report-lines-spec : {M : Type 1} → statement M
 report-lines-spec =
@@ -140,7 +138,7 @@ report-lines-spec =
     fill-verdict-requires-2
     enum-known-refusal
     refusal-numbers-requires
-    fill-refusal-requires
+    put-refusal-requires
     same-length
     returns
     same-length-2

@@ -1,4 +1,5 @@
-//! Times of reading, judging and carrying out, by the library and by the peer, in turn on the same sheets.
+//! Times of reading, judging, carrying out and forecasting, by the library and by the peer, in
+//! turn on the same sheets.
 //! Inputs and lent memory are ready before; lent memory is not cleared between calls. Times
 //! are this thread's processor time, so that other work on the machine counts little.
 
@@ -59,6 +60,11 @@ impl Ready {
     /// The peer's run; none where it is refused.
     pub fn run(&self) -> Option<peer::Run> {
         peer::carry(&self.numbers, RECORDS / 4).ok()
+    }
+
+    /// The peer's forecast; none where it is refused.
+    pub fn forecast(&self) -> Option<peer::Forecast> {
+        peer::forecast(&self.numbers).ok()
     }
 }
 
@@ -160,6 +166,35 @@ pub fn carry_times(effort: &Effort, sheets: &[Ready]) -> Times {
             let _ = black_box(peer::carry(black_box(&sheet.numbers), RECORDS / 4));
         },
     )
+}
+
+pub fn forecast_times(effort: &Effort, sheets: &[Ready]) -> Times {
+    times(
+        effort,
+        sheets,
+        |sheet| {
+            black_box(library::forecast(black_box(&sheet.lines)));
+        },
+        |sheet| {
+            let _ = black_box(peer::forecast(black_box(&sheet.numbers)));
+        },
+    )
+}
+
+/// The median of the library's times of forecasting / judging.
+pub fn forecast_to_judge(effort: &Effort, sheets: &[Ready]) -> f64 {
+    let mut lent = vec![0; STEPS];
+    let both = times(
+        effort,
+        sheets,
+        |sheet| {
+            black_box(library::forecast(black_box(&sheet.lines)));
+        },
+        |sheet| {
+            black_box(library::judge(black_box(&sheet.lines), &mut lent));
+        },
+    );
+    both.ratio
 }
 
 /// The times of one of the calls on growing sets of sheets: the best of three passes over

@@ -2,7 +2,7 @@
 use Prim.Native.Nat.{ℕ, _+_, _*_, _≤_, _<_}
 use native.Mathlib.Omega.{arith}
 use borrow.Author.Needs.{needs}
-use Rattle.running.proofs.HashLaws.{product-small}
+use Rattle.chains.proofs.ChainLaws.{product-small}
 use Rattle.running.proofs.hash.mix.Statement.{statement}
 use Rattle.running.proofs.hash.mix.Tie as tie
 

@@ -8,7 +8,7 @@ use lib.ListN.{getD}
 use Rattle.rules.specs.inner.Tests.{Decides}
 use Rattle.running.specs.inner.Chains.{bucketOf, FoundAt}
 use Rattle.running.specs.inner.Held.{rowAt, bucketAt, section, Stored}
-use Rattle.running.proofs.ChainLaws.{Searching, search-begin, search-place, search-next, search-less, found-here, found-nowhere}
+use Rattle.chains.proofs.ChainLaws.{Searching, search-begin, search-place, search-next, search-less, found-here, found-nowhere}
 use Rattle.running.proofs.RecordLaws.{section-cell}
 use Rattle.running.proofs.records.find.Statement.{statement}
 use Rattle.running.proofs.records.find.Tie as tie

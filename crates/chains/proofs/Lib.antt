@@ -1,0 +1,2 @@
+-- The laws that the crates above share.
+pub mod ChainLaws

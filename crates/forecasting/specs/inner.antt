@@ -1,0 +1,4 @@
+-- What inner functions promise each other. No public contract cites this.
+pub mod Marks
+pub mod Terms
+pub mod Values
