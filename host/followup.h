@@ -43,8 +43,8 @@ extern "C" {
 #define FOLLOWUP_VERSION 1
 
 /* Stack that suffices for a thread that makes any of the calls. test.c makes them on a stack of that size, filled with one byte
- * value, and looks how much of it has changed at the end: 263,464 bytes with carrying out, 245,338 with judging,
- * 221,978 with judging a text, 109,944 with reading, 80,824 with writing, 4,464 with none (gcc -O2, glibc). So no call needs
+ * value, and looks how much of it has changed at the end: 266,202 bytes with the forecast, 263,512 with carrying out, 245,370 with
+ * judging, 222,010 with judging a text, 109,976 with reading, 80,856 with writing, 4,464 with none (gcc -O2, glibc). So no call needs
  * 256 KiB itself. Some C libraries give a thread less where nothing is asked for (musl: 128 KiB); there set the size of its
  * stack (pthread_attr_setstacksize). */
 #define FOLLOWUP_STACK ((size_t)264 * 1024)

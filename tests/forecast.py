@@ -116,7 +116,7 @@ CASES = [
 def main():
     program = sys.argv[1]
     draw = random.Random(1)
-    tried = [(text, run(text, MOST_RECORDS)) for text in (settling(draw) for _ in range(150))]
+    tried = [(text, run(text, MOST_RECORDS)) for text in (settling(draw) for _ in range(300))]
     tried = [(text, ran) for text, ran in tried if len(ran[0]) <= MOST_RECORDS]
     cases = CASES + REFUSED + list(examples(lambda text: foretold(text, run(text, MOST_RECORDS))))
     cases += [("random sheet %d" % k, text, foretold(text, ran)) for k, (text, ran) in enumerate(tried)]

@@ -112,6 +112,9 @@ fn print_forecasting(effort: &Effort) {
         let counts = forecast_counts(&family.sheets);
         println!("| {} | {counts} | {times} |", family.name);
     }
+    let smallest = [Ready::new(&forecasting_series::smallest())];
+    let times = forecast_cells(effort, &smallest, &mut most);
+    println!("\nOne row and one rule, most of it what judging clears: {part}: {times}.");
     println!("\nForecasting takes the library at most {most:.2} times as long as judging.");
 }
 
