@@ -1,28 +1,18 @@
 -- The figures by coefficients and with caps are those of the forecast. Assumes nothing.
 use mathlib.Core.Path.{_≡_, refl, sym, _∙_, ap}
-use mathlib.Core.Bool.{cond}
 use mathlib.Core.List.{List}
 use Prim.Native.Nat.{ℕ, zero, suc, _+_, _≤_, _<_}
 use native.Mathlib.Decide.{ℕ-discrete}
 use native.Mathlib.Numerals.{add-one}
 use native.Mathlib.Omega.{arith}
-use borrow.Author.Tests.{le-leb, lt-leb}
 use Rattle.sheet.specs.Line.{Line}
 use Rattle.chase.specs.Rules.{Rule, rulesOf}
-use Rattle.arithmetic.specs.Capped.{cap, capped, polynomial}
+use Rattle.arithmetic.specs.Capped.{capped, polynomial}
 use Rattle.arithmetic.proofs.CappedLaws.{capped-once, plus-alike, polynomial-alike}
-use Rattle.growth.specs.Forecast.{sumOf, newWith, valuesAfter, firstT, lastT, kindLines, recordsWith, pairsWith, Figure, exactly, beyond, figureLimit, figure, Forecast, forecast}
+use Rattle.growth.specs.Forecast.{sumOf, newWith, valuesAfter, firstT, lastT, kindLines, recordsWith, pairsWith, Figure, figure, Forecast, forecast}
+use Rattle.growth.proofs.GrowthLaws.{figure-beyond}
 use Rattle.forecasting.specs.inner.Terms.{KindsCounted, RulesCounted, grown}
 use Rattle.forecasting.specs.declared.terms.RuleTerms.{RuleTerms}
-
--- A number below the cap is its figure; one that has reached it is beyond.
-pub figure-exactly : (n : ℕ) → n < cap → exactly n ≡ figure n
-unfolding figure
-figure-exactly n h = sym (ap (λ t. cond t (exactly n) beyond) (le-leb n figureLimit (omega arith)))
-
-pub figure-beyond : (n : ℕ) → cap ≤ n → beyond ≡ figure n
-unfolding figure
-figure-beyond n h = sym (ap (λ t. cond t (exactly n) beyond) (lt-leb n figureLimit (omega arith)))
 
 -- Numbers that are equal up to the cap have the same figure.
 pub figure-alike : (a b : ℕ) → capped a ≡ capped b → figure a ≡ figure b
@@ -30,7 +20,7 @@ figure-alike a b h = go (ℕ-discrete a b)
   where
     go : Dec (a ≡ b) → figure a ≡ figure b
     go (yes e) = ap figure e
-    go (no k) = sym (figure-beyond a (omega arith)) ∙ figure-beyond b (omega arith)
+    go (no k) = figure-beyond a (omega arith) ∙ sym (figure-beyond b (omega arith))
 
 -- One generation more, with a cap on what is made of t and on the sum.
 pub grown-more : (fresh : List ℕ) (first t d made next : ℕ) → capped t ≡ capped (grown fresh first d) → made ≡ capped (polynomial fresh t)

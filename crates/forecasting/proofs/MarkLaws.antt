@@ -14,10 +14,9 @@ use Rattle.chase.specs.Rules.{Rule, marksOf}
 use Rattle.chase.specs.Making.{carriedMarks}
 use Rattle.chase.specs.Counting.{Count}
 use Rattle.chase.proofs.ListLaws.{in-left, in-right, in-append}
-use Rattle.chase.proofs.MakingLaws.{carried-in, in-carried, carried-noTwo}
 use Rattle.chase.proofs.CountLaws.{pigeonhole, numbersTo, in-numbersTo, count-iff, count-one}
 use Rattle.carrying.specs.Carrying.{freshMarks}
-use Rattle.carrying.proofs.MarkLaws.{fresh-in, in-fresh, fresh-noTwo}
+use Rattle.growth.proofs.Theorems.{fresh-counts, carried-counts}
 use Rattle.rules.specs.Table.{SheetHeld, MarksFit}
 use Rattle.rules.specs.inner.Bytes.{marksAt, headsAt, LineIn, headCount}
 use Rattle.rules.proofs.SheetLaws.{size-held}
@@ -277,19 +276,13 @@ pub record HeadsPassed (numbers : List ℕ) (n h : ℕ) (met : List ℕ) (c : Ma
 -- What is counted of a rule's marks, all passed, are its fresh and its carried marks.
 fresh-counted : (r : Rule) {k : ℕ} → Count (Among (NotIn (r .marks)) (marksOf (r .heads))) k → k ≡ length (freshMarks r)
 fresh-counted r {k} c =
-    count-one (Among (NotIn (r .marks)) (marksOf (r .heads))) k (length (freshMarks r)) c
-    (record { list = freshMarks r; different = fresh-noTwo r; sound = fresh-in r; complete = λ m p. in-fresh r m (p .0) (p .1); size = refl })
+    count-one (Among (NotIn (r .marks)) (marksOf (r .heads))) k (length (freshMarks r)) c (fresh-counts r)
 
 carried-counted : (r : Rule) {k : ℕ} → Count (Among (IsIn (r .marks)) (marksOf (r .heads))) k → k ≡ length (carriedMarks r)
 carried-counted r {k} c =
     count-one (Among (IsIn (r .marks)) (marksOf (r .heads))) k (length (carriedMarks r)) c
-    (record {
-      list = carriedMarks r;
-      different = carried-noTwo r;
-      sound = λ m i. let (b, h) = carried-in r m i in (h, b);
-      complete = λ m p. in-carried r m (p .1) (p .0);
-      size = refl;
-    })
+    (count-iff (λ m. In m (r .marks) × In m (marksOf (r .heads))) (Among (IsIn (r .marks)) (marksOf (r .heads))) (length (carriedMarks r)) (λ m p. (p .1, p .0))
+    (λ m p. (p .1, p .0)) (carried-counts r))
 
 module _ {numbers : List ℕ} (n : ℕ) (asked : SheetHeld numbers × (8 * n < length numbers) × (getD numbers (8 * n) 0 ≡ B)) where
   here : RuleHere (asked .0) n

@@ -98,7 +98,8 @@ module _ (limit : ℕ) (numbers : List ℕ) where
         go (judgeWrong line s e) h = wrong line e
         go (judgeMany lines s e m) h = many lines e m
 
-    not-twelve : 5 * stepLimit ≤ length steps → {n k : ℕ} → JudgeRefuses limit numbers steps n k → n ≡ 12 → ⊥
+    -- With steps enough lent Judge does not say 12.
+    pub not-twelve : 5 * stepLimit ≤ length steps → {n k : ℕ} → JudgeRefuses limit numbers steps n k → n ≡ 12 → ⊥
     not-twelve lent (short s) p = omega arith
     not-twelve lent (judgeWrong line s e) p = omega arith
     not-twelve lent (judgeMany lines s e m) p = omega arith

@@ -14,7 +14,7 @@ enum-known-deepest c = search needs
 foretell-requires : tie.Need-foretell-requires
 foretell-requires c κs =
     let at = c .before .before .before in
-    depth-settles (at .before .before .args .lines .now) (at .judged-depth .result) (at .judged-depth .ensures) _ (c .before .deepest .given .1) .held
+    depth-settles (at .before .before .args .lines .now) (at .judged-depth .result) (at .judged-depth .ensures) _ (c .before .deepest .given .1)
 
 enum-known-refusal : tie.Need-enum-known-refusal
 enum-known-refusal c = search needs

@@ -6,14 +6,13 @@ use lib.ListN.{length}
 use Rattle.sheet.specs.Line.{Line}
 use Rattle.chase.specs.Rules.{Rule, rulesOf}
 use Rattle.chase.specs.Making.{carriedMarks}
-use Rattle.chase.specs.Run.{rowsOf}
 use Rattle.chase.specs.Judge.{shapeLimit}
 use Rattle.carrying.specs.Carrying.{freshMarks}
 use Rattle.rules.specs.Table.{SheetHeld, linesIn}
 use Rattle.rules.specs.inner.Bytes.{ruleAt, headCount}
 use Rattle.arithmetic.specs.Capped.{polynomial}
-use Rattle.growth.specs.Forecast.{sumOf, newWith, kindLines, recordsWith, pairsWith}
-use Rattle.growth.specs.Contract.{Taken, Deepest, Refuses}
+use Rattle.growth.specs.Forecast.{sumOf, newWith, kindLines, recordsWith, pairsWith, forecast}
+use Rattle.growth.specs.Contract.{foretold, refuses, ForecastMeets}
 use Rattle.judging.specs.Answer.{judgeRefusalNumber, judgeRefusalLine}
 use Rattle.judging.specs.declared.JudgeRefusal.{JudgeRefusal}
 use Rattle.forecasting.specs.Answer.{forecastRefusalNumber, forecastRefusalLine}
@@ -54,12 +53,7 @@ grown fresh first (suc d) = first + polynomial fresh (grown fresh first d)
 abbrev pub SameRefusal : JudgeRefusal → ForecastRefusal → Type 0
 SameRefusal j r = (judgeRefusalNumber j ≡ 12 → ⊥) → (forecastRefusalNumber r ≡ judgeRefusalNumber j) × (forecastRefusalLine r ≡ judgeRefusalLine j)
 
--- What Judge's answer says: the lines are a sheet that settles with this deepest generation; or why nothing is foretold.
-pub record SettlesWith (numbers : List ℕ) (deepest : ℕ) : Type 0 where
-  pub held : SheetHeld numbers
-  pub taken : Taken shapeLimit numbers (linesIn numbers)
-  pub is-deepest : Deepest (rulesOf (linesIn numbers)) (rowsOf (linesIn numbers)) deepest
-
+-- What Judge's answer says: the lines are a sheet that settles, whose forecast is the one with this deepest generation; or why nothing is foretold.
 abbrev pub DepthSays : List ℕ → Depth → Type 0
-DepthSays numbers (Settles deepest) = SettlesWith numbers deepest
-DepthSays numbers (Refused r) = Refuses shapeLimit numbers (forecastRefusalNumber r) (forecastRefusalLine r)
+DepthSays numbers (Settles deepest) = SheetHeld numbers × ForecastMeets shapeLimit numbers (foretold (forecast (linesIn numbers) deepest))
+DepthSays numbers (Refused r) = ForecastMeets shapeLimit numbers (refuses (forecastRefusalNumber r) (forecastRefusalLine r))
