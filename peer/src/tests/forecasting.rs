@@ -1,7 +1,7 @@
 //! The sheets for forecasting, random ones and those for timing, are what their names say.
 
 use crate::random::forecasting;
-use crate::random::forecasting_series::families;
+use crate::random::forecasting_series::{families, smallest};
 use crate::random::sheets::Sheet;
 use crate::random::Random;
 use crate::{forecast, judge, Forecast, Refusal};
@@ -50,9 +50,9 @@ fn random_sheets_meet_every_limit() {
 
 #[test]
 fn families_have_the_values_that_they_promise() {
-    let all = families();
-    let values = all.iter().map(|family| {
-        let sheet = &family.sheets[0];
+    let mut all: Vec<Sheet> = families().into_iter().flat_map(|f| f.sheets).collect();
+    all.push(smallest());
+    let values = all.iter().map(|sheet| {
         let verdict = judge(sheet.lines().as_flattened(), 20_480).unwrap();
         // The first t: where a rule fires, without it.
         let mut bare = sheet.clone();
