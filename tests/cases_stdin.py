@@ -50,7 +50,7 @@ def different_shapes(count):
 
 def longest():
     """A sheet of 32,768 bytes."""
-    text = kinds(5, 1) + rule((2, 1), (2, 2)) + rows(*[(1, i % 7, 1, 2, i % 7, 0) for i in range(583)], (2, 5), (2, 6))
+    text = kinds(5, 1) + rule((2, 1), (2, 2)) + rows(*[(1, i % 7 + 1, 2, 3, i % 7 + 1, 1) for i in range(583)], (2, 5), (2, 6))
     assert len(text) == 32768
     return text
 
@@ -75,6 +75,7 @@ def refused(name, text, number, at, lent=4096):
 
 SHOWN = kinds(2) + rule((1, 1, 2), (1, 2, 3))
 TWICE = kinds(2) + rule((1, 1, 1), (1, 2, 1))
+NEXT = kinds(2, 2) + rule((1, 1, 1), (2, 1, 2)) + rule((2, 1, 2), (1, 2, 2))
 
 
 def rules_fired(fired, count):
@@ -110,16 +111,24 @@ CASES = [
     case("seven rules of eight fired", rules_fired(7, 8), SETTLES, fired=7, share=88),
     case("one rule of 40 fired", rules_fired(1, 40), SETTLES, fired=1, share=2),
     case("one rule of 200 fired", rules_fired(1, 200), SETTLES, fired=1, share=0),
+    # document 02: a 0 is not given, and equal to itself alone
+    case("P(1,1) -> P(2,1), row 0 0", TWICE + rows((1, 0, 0)), SETTLES, 0, 1, 0, 0),
+    case("P(1,1) -> P(2,1), rows 0 0, 0 0, 7 7", TWICE + rows((1, 0, 0), (1, 0, 0), (1, 7, 7)), SETTLES, 1, 2, 1, 100, row=3),
+    case("endless if zeros were the same", NEXT + rows((1, 0, 0)), SETTLES, 0, 1, 0, 0),
+    case("the same with 7 7", NEXT + rows((1, 7, 7)), ENDLESS, 0, 2, 2, 100, loop=2),
+    case("a 0 carried to two fields", kinds(1, 2, 2) + rule((1, 1), (2, 1, 1)) + rule((2, 1, 1), (3, 1, 2)) + rows((1, 0)), SETTLES, 1, 3, 2, 100, 1, 2),
+    case("a 0 carried to a loop", NEXT + rows((2, 7, 0)), ENDLESS, 0, 2, 2, 100, loop=2),
     # beyond the documents: longer ways, several H lines, several carried marks, value 0, equal rows and equal rules
     case("a chain of five kinds", kinds(1, 2, 2, 2, 2) + "".join(rule((k, *range(1, (k > 1) + 2)), (k + 1, (k > 1) + 1, (k > 1) + 2)) for k in range(1, 5)) + rows((1, 5)), SETTLES, 4, 5, 4, 100),
     case("four H lines that share a fresh mark", kinds(2, 3, 6) + rule((1, 1, 2), (2, 1, 3, 4), (2, 3, 3, 2), (3, 1, 2, 3, 4, 5, 1), (1, 3, 3)) + rows((1, 0, 0), (1, 0, 1)), ENDLESS),
     case("the larger of two carried values", kinds(1, 2, 2, 2) + rule((1, 1), (2, 1, 2)) + rule((2, 1, 2), (3, 1, 2), (3, 2, 3)) + rule((3, 1, 2), (4, 2, 3), (4, 1, 3)) + rows((1, 0)), SETTLES, 3),
     case("a loop of three after a trail", kinds(1, 1, 1, 2, 2, 2) + rule((1, 1), (2, 1)) + rule((2, 1), (3, 1)) + rule((3, 1), (4, 1, 1)) + rule((4, 1, 1), (5, 1, 2)) + rule((5, 1, 2), (6, 2, 1)) + rule((6, 1, 2), (4, 1, 1)) + rows((2, 9), (1, 9)), ENDLESS, shapes=6, fired=6, share=100, loop=3),
-    case("equal rows, equal rules, one unfired", kinds(1, 2) + rule((1, 1), (2, 1, 2)) * 2 + rule((2, 1, 1), (1, 1)) + rows((1, 0), (1, 0), (1, 99999999)), SETTLES, 1, 2, 2, 67),
+    case("equal rows, equal rules, one unfired", kinds(1, 2) + rule((1, 1), (2, 1, 2)) * 2 + rule((2, 1, 1), (1, 1)) + rows((1, 7), (1, 7), (1, 99999999)), SETTLES, 1, 2, 2, 67),
     # the example sheets
     case("examples/pallets.sheet", example("pallets"), SETTLES, 3),
     case("examples/loop.sheet", example("loop"), ENDLESS),
     case("examples/patterns.sheet", example("patterns"), SETTLES),
+    case("examples/scans.sheet", example("scans"), SETTLES, 1, 3, 1, 100),
     refused("examples/refused.sheet", example("refused"), 5, 2),
 ]
 
@@ -136,9 +145,9 @@ def read(path):
 
 
 def tried(program):
-    """Tries the program; says how much and what failed. An empty input has no sheets, only the two patterns."""
-    patterns_only = read(PRINTED).splitlines(keepends=True)[-3:-1] + [b"2 cases, all match\n"]
-    return failures(program, read(STORED), read(PRINTED), b"".join(patterns_only))
+    """Tries the program; says how much and what failed. An empty input has no sheets, only the patterns."""
+    patterns_only = [at for at in read(PRINTED).splitlines(keepends=True) if at.startswith(b"pattern of ")]
+    return failures(program, read(STORED), read(PRINTED), b"".join(patterns_only) + b"%d cases, all match\n" % len(patterns_only))
 
 
 def main():

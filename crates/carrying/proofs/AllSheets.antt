@@ -105,7 +105,8 @@ passes? s e = go (sheetIn (s .text))
 abbrev pub evidence : List Evidence
 evidence =
     ends ∷ ends ∷ ends ∷ ends ∷ ends ∷ ends ∷ ends ∷ ends ∷ ends ∷ ends ∷ ends ∷ ends ∷ ends ∷ ends ∷ ends ∷ ends ∷ ends ∷ ends
-    ∷ passes 2
+    ∷ ends ∷ ends ∷ ends ∷ ends ∷ ends
+    ∷ passes 2 ∷ passes 1
     ∷ turns 1 [] (record { rule = 1; head = 1; from = 2; to = 2; fresh = 1 }) []
     ∷ []
 

@@ -45,7 +45,7 @@ module _ (numbers before : List ℕ) where
       → (a : Carried) (now : List ℕ) → CarryMeets numbers before a now ↔ ((a ≡ refuses number line) × (now ≡ before))
   refused-just-if number line r = only-answer (refuses number line) before (r, refl)
 
-  -- The chase of a sheet within both limits: its records, its pairs of rule and carried values, and its fresh numbers, counted on from the table's largest value.
+  -- The chase of a sheet within both limits: its records, its pairs of rule and carried values, and its fresh numbers, counted on from the table's largest value and its zeros.
   pub record Within (records firings : ℕ) : Type 0 where
     pub lines : List Line
     pub taken : Taken numbers before lines

@@ -17,16 +17,9 @@ use Rattle.chase.proofs.CountLaws.{pigeonhole}
 use Rattle.carrying.specs.Carrying.{Row, Pair, Pair-discrete, FiresOn, firesOn?, pairOf, State, after, Finished, beginsAt}
 use Rattle.carrying.specs.inner.Keys.{pairsOn, firingsOn}
 use Rattle.carrying.specs.Meaning.{Numbering}
-use Rattle.carrying.proofs.ListLaws.{in-element}
+use Rattle.carrying.proofs.ListLaws.{in-element, noTwo-append}
 use Rattle.carrying.proofs.FiringLaws.{Kept, pair-path}
 use Rattle.carrying.proofs.VisitLaws.{Visited, after-good}
-
-noTwo-append : {A : Type 0} (xs ys : List A) → NoTwo xs → NoTwo ys → ((x : A) → In x xs → In x ys → ⊥) → NoTwo (xs ++ ys)
-noTwo-append [] ys n m h = m
-noTwo-append (x ∷ xs) ys n m h = (
-  (λ i. elim (in-append x xs ys i) [ inl j ↦ n .0 j | inr j ↦ h x (inl refl) j ]),
-  noTwo-append xs ys (n .1) m (λ y i j. h y (inr i) j),
-)
 
 -- The pairs of a rule over some rows.
 module _ (n : ℕ) (r : Rule) where

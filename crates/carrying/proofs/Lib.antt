@@ -3,6 +3,7 @@ pub mod AllSheets
 pub mod ListLaws
 pub mod RenameLaws
 pub mod MarkLaws
+pub mod FilledLaws
 pub mod FiringLaws
 pub mod VisitLaws
 pub mod ResultLaws

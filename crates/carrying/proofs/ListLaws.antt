@@ -55,12 +55,15 @@ module _ {A : Type 0} where
   element-past (x ∷ l) zero h = absurd (omega arith)
   element-past (x ∷ l) (suc i) h = element-past l i (omega arith)
 
-  pub noTwo-last : (l : List A) (x : A) → NoTwo l → (In x l → ⊥) → NoTwo (l ++ (x ∷ []))
-  noTwo-last [] x n h = ((λ i. i), tt)
-  noTwo-last (y ∷ l) x n h = (
-    (λ i. elim (in-append y l (x ∷ []) i) [ inl j ↦ n .0 j | inr j ↦ elim j [ inl q ↦ h (inl (sym q)) | inr k ↦ k ] ]),
-    noTwo-last l x (n .1) (λ i. h (inr i)),
+  pub noTwo-append : (xs ys : List A) → NoTwo xs → NoTwo ys → ((x : A) → In x xs → In x ys → ⊥) → NoTwo (xs ++ ys)
+  noTwo-append [] ys n m h = m
+  noTwo-append (x ∷ xs) ys n m h = (
+    (λ i. elim (in-append x xs ys i) [ inl j ↦ n .0 j | inr j ↦ h x (inl refl) j ]),
+    noTwo-append xs ys (n .1) m (λ y i j. h y (inr i) j),
   )
+
+  pub noTwo-last : (l : List A) (x : A) → NoTwo l → (In x l → ⊥) → NoTwo (l ++ (x ∷ []))
+  noTwo-last l x n h = noTwo-append l (x ∷ []) n ((λ i. i), tt) (λ y i j. elim j [ inl q ↦ h (subst (λ (z : A). In z l) q i) | inr k ↦ k ])
 
 -- A map that keeps different elements of a list different leaves none twice.
 pub noTwo-map : {A B : Type 0} (f : A → B) (l : List A) → ((x y : A) → In x l → In y l → f x ≡ f y → x ≡ y) → NoTwo l → NoTwo (map f l)

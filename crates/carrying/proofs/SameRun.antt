@@ -6,9 +6,9 @@ use native.Mathlib.Omega.{arith}
 use lib.ListN.{length}
 use Rattle.sheet.specs.Line.{Line}
 use Rattle.chase.specs.Rules.{rulesOf}
-use Rattle.chase.specs.Value.{table}
-use Rattle.carrying.specs.Carrying.{begins, tableRows}
+use Rattle.carrying.specs.Carrying.{filledTable, begins, tableRows}
 use Rattle.carrying.specs.Contract.{top, run, Ends}
+use Rattle.carrying.specs.Meaning.{tableMeaning}
 use Rattle.carrying.specs.inner.Keys.{keyAfter, firingsOn}
 use Rattle.carrying.proofs.KeyLaws.{keys-alike}
 use Rattle.carrying.proofs.FiringCount.{firings-by-rule as by-rule}
@@ -21,9 +21,9 @@ module _ (lines : List Line) where
       × (keyAfter (rulesOf lines) (begins (tableRows lines)) k .next ≡ run lines k .next)
       × (length (keyAfter (rulesOf lines) (begins (tableRows lines)) k .fired) + length (begins (tableRows lines) .rows) ≤ length (run lines k .rows))
   same-run k =
-      let a = keys-alike (rulesOf lines) (tableRows lines) (suc (top lines)) table (numbering lines) k in
+      let a = keys-alike (rulesOf lines) (filledTable (tableRows lines)) (suc (top lines)) (tableMeaning lines) (numbering lines) k in
       (a .rows, a .next, omega (arith, a .few, ap length (a .rows)))
 
   -- The firings of a run that has ended are counted by its rows, rule by rule.
   pub firings-by-rule : (k : ℕ) → Ends lines k → firingsOn 1 (rulesOf lines) (run lines k .rows) ≡ length (run lines k .fired)
-  firings-by-rule k ends = by-rule (rulesOf lines) (tableRows lines) (suc (top lines)) table (numbering lines) k ends
+  firings-by-rule k ends = by-rule (rulesOf lines) (filledTable (tableRows lines)) (suc (top lines)) (tableMeaning lines) (numbering lines) k ends

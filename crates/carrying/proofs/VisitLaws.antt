@@ -11,10 +11,11 @@ use Rattle.patterns.specs.Pattern.{pick}
 use Rattle.chase.specs.Lists.{In, in?}
 use Rattle.chase.specs.Rules.{Rule, nth}
 use Rattle.chase.specs.Value.{Value}
-use Rattle.chase.proofs.ListLaws.{in-right}
+use Rattle.chase.proofs.ListLaws.{in-right, in-addAll, map-in}
+use Rattle.chase.proofs.MakingLaws.{makes-in, valueOf-in-fields}
 use Rattle.chase.proofs.CountLaws.{element-below}
 use Rattle.chase.proofs.StepLaws.{element-in}
-use Rattle.carrying.specs.Carrying.{Row, Row-discrete, Pair, Pair-discrete, FiresOn, firesOn?, rowMade, pairOf, State, fired, visitRule, visitRules, visit, after, Finished, beginsAt}
+use Rattle.carrying.specs.Carrying.{Row, Row-discrete, Pair, Pair-discrete, FiresOn, firesOn?, numberOf, rowMade, pairOf, State, fired, visitRule, visitRules, visit, after, Finished, beginsAt}
 use Rattle.carrying.specs.Meaning.{Numbering}
 use Rattle.carrying.proofs.ListLaws.{Begins, begins-self, begins-trans, begins-in, begins-element, begins-addAll, element-past}
 use Rattle.carrying.proofs.FiringLaws.{Kept, kept-begin, kept-fired, meaning′}
@@ -89,6 +90,34 @@ module _ (n : ℕ) (r : Rule) (w : Row) (s : State) where
       go (no h) q = absurd (h f)
       go (yes p) (yes i) = i
       go (yes p) (no h) = in-right (pairOf n r w) (s .fired) (pairOf n r w ∷ []) (inl refl)
+
+-- A number below the next one that stands in no row is made by no rule.
+module _ (a : ℕ) where
+  abbrev pub Nowhere : State → Type 0
+  Nowhere s = (a < s .next) × ((z : Row) → In z (s .rows) → In a (z .numbers) → ⊥)
+
+  nowhere-rules : (w : Row) → (In a (w .numbers) → ⊥) → (rs : List Rule) (n : ℕ) (s : State) → Nowhere s → Nowhere (visitRules n rs w s)
+  nowhere-rules w h [] n s N = N
+  nowhere-rules w h (r ∷ rs) n s N = nowhere-rules w h rs (suc n) (visitRule n r w s) (visitRule-ways n r w s Nowhere N (λ f new. (omega (arith, N .0), made)))
+    where
+      made : (z : Row) → In z (fired n r w s .rows) → In a (z .numbers) → ⊥
+      made z i j =
+          elim (in-addAll Row-discrete z (map (rowMade (s .next) r w) (r .heads)) (s .rows) i) [
+            | inl k ↦
+                let t = map-in (rowMade (s .next) r w) (r .heads) z k in
+                let u = makes-in r (w .numbers) (numberOf (s .next) r) (t .0 .marks) a (subst (λ (y : Row). In a (y .numbers)) (t .2) j) in
+                elim (u .2) [ inl e ↦ h (valueOf-in-fields (r .marks) (w .numbers) (u .0) a e) | inr e ↦ omega (arith, N .0, e .1) ]
+            | inr k ↦ N .1 z k j
+          ]
+
+  pub nowhere-after : (rules : List Rule) (begin : State) → Nowhere begin → (k : ℕ) → Nowhere (after rules begin k)
+  nowhere-after rules begin N zero = N
+  nowhere-after rules begin N (suc k) =
+      go (getElem? (after rules begin k .rows) k) refl (nowhere-after rules begin N k)
+    where
+      go : (o : Option Row) → getElem? (after rules begin k .rows) k ≡ o → Nowhere (after rules begin k) → Nowhere (visit rules o (after rules begin k))
+      go none e ih = ih
+      go (some w) e ih = nowhere-rules w (ih .1 w (element-in (after rules begin k .rows) k w e)) rules 1 (after rules begin k) ih
 
 -- All rules of a list.
 module _ (w : Row) where

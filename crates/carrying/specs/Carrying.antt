@@ -112,7 +112,7 @@ module _ (rules : List Rule) (begin : State) where
   abbrev pub Finished : ℕ → Type 0
   Finished k = length (after k .rows) ≤ k
 
--- A run begins with the table's rows in order, repeats dropped.
+-- A run begins with rows in order, repeats dropped, and a first number.
 abbrev pub beginsAt : ℕ → List Row → State
 beginsAt first rows = record { rows = addAll Row-discrete rows []; next = first; fired = [] }
 
@@ -120,9 +120,34 @@ abbrev pub numbersIn : List Row → List ℕ
 numbersIn [] = []
 numbersIn (w ∷ ws) = w .numbers ++ numbersIn ws
 
--- Its first number is the next after the table's largest.
+-- ZEROS, which are not given (change request 4). Each gets the next number, by field; the others stay.
+abbrev pub filled : ℕ → List ℕ → List ℕ
+filled next [] = []
+filled next (zero ∷ ns) = next ∷ filled (suc next) ns
+filled next (suc n ∷ ns) = suc n ∷ filled next ns
+
+-- How many there are.
+abbrev pub zeros : List ℕ → ℕ
+zeros [] = 0
+zeros (zero ∷ ns) = suc (zeros ns)
+zeros (suc n ∷ ns) = zeros ns
+
+-- By row and then by field.
+abbrev pub filledRows : ℕ → List Row → List Row
+filledRows next [] = []
+filledRows next (w ∷ ws) = record { kind = w .kind; numbers = filled next (w .numbers) } ∷ filledRows (next + zeros (w .numbers)) ws
+
+-- The table with its zeros filled: they get the next numbers after its largest value.
+abbrev pub filledTable : List Row → List Row
+filledTable rows = filledRows (suc (largest (numbersIn rows))) rows
+
+-- The last number before the fresh ones: the table's largest value, and one more for each 0.
+abbrev pub lastFilled : List Row → ℕ
+lastFilled rows = largest (numbersIn rows) + zeros (numbersIn rows)
+
+-- So a run of a table begins; fresh marks go on from there.
 abbrev pub begins : List Row → State
-begins rows = beginsAt (suc (largest (numbersIn rows))) rows
+begins rows = beginsAt (suc (lastFilled rows)) (filledTable rows)
 
 -- The rows of a sheet.
 abbrev pub rowOf : Line → Row

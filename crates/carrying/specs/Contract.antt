@@ -7,13 +7,12 @@ use Rattle.patterns.specs.Outcome.{good, refused}
 use Rattle.columns.specs.Column.{largestNumber}
 use Rattle.sheet.specs.Line.{R, Line, lineSize, lentOf}
 use Rattle.sheet.specs.Write.{sheetHeld}
-use Rattle.chase.specs.Lists.{largest}
 use Rattle.chase.specs.Rules.{rulesOf}
 use Rattle.chase.specs.Run.{Reachable, rowsOf}
 use Rattle.chase.specs.Shape.{Reached}
 use Rattle.chase.specs.Counting.{Count, MoreThan}
 use Rattle.chase.specs.Judge.{Bounded, Unbounded, shapeLimit}
-use Rattle.carrying.specs.Carrying.{Row, State, after, Finished, numbersIn, begins, tableRows}
+use Rattle.carrying.specs.Carrying.{Row, State, after, Finished, lastFilled, begins, tableRows}
 use Rattle.carrying.specs.Meaning.{Made}
 
 -- At least 4,096 records are lent, and at most so many are made.
@@ -41,9 +40,9 @@ module _ (lines : List Line) where
   abbrev pub Ends : ℕ → Type 0
   Ends k = Finished (rulesOf lines) (begins (tableRows lines)) k
 
-  -- The table's largest value.
+  -- The table's largest value, and one more for each 0.
   abbrev pub top : ℕ
-  top = largest (numbersIn (tableRows lines))
+  top = lastFilled (tableRows lines)
 
 -- What is not refused with 12, 8 or 11: there is room, the lines are a sheet, and at most 512 shapes are reached.
 pub record Taken (numbers before : List ℕ) (lines : List Line) : Type 0 where
@@ -79,7 +78,7 @@ pub data Refuses (numbers before : List ℕ) : ℕ → ℕ → Type 0 where
   -- It settles, and more than 4,096 records are reachable.
   manyRecords : (lines : List Line) → Taken numbers before lines → (deepest : ℕ) → Bounded (rulesOf lines) (rowsOf lines) deepest
       → MoreThan (Reachable (rulesOf lines) (rowsOf lines)) recordLimit → Refuses numbers before 22 0
-  -- At most so many are, and the fresh numbers in them, counted on from the table's largest value, pass 99,999,999.
+  -- At most so many are, and the table's zeros and the fresh numbers in them, counted on from the table's largest value, pass 99,999,999.
   largeNumber : (lines : List Line) → Taken numbers before lines → (n : ℕ) → Count (Reachable (rulesOf lines) (rowsOf lines)) n → n ≤ recordLimit
       → (fresh : ℕ) → Count (Made (rulesOf lines) (rowsOf lines)) fresh → largestNumber < top lines + fresh → Refuses numbers before 23 0
 

@@ -1,15 +1,20 @@
 -- What the numbers of a run mean: values of the chase, renamed one-to-one. Assumes nothing.
 use mathlib.Core.Path.{_≡_}
-use mathlib.Core.List.{List, [], _++_, map}
+use mathlib.Core.List.{List, [], _∷_, _++_, map}
 use mathlib.Core.Option.{Option, none, some}
-use Prim.Native.Nat.{ℕ, _≤_, _<_}
-use Rattle.chase.specs.Lists.{In}
-use Rattle.chase.specs.Rules.{Rule, nth}
-use Rattle.chase.specs.Value.{Value, generation}
+use Prim.Native.Nat.{ℕ, suc, _-_, _≤_, _<_}
+use native.Mathlib.Decide.{ℕ-discrete, decLe}
+use lib.ListN.{getD}
+use Rattle.patterns.specs.Lists.{Numbered, numbered}
+use Rattle.patterns.specs.Pattern.{pick}
+use Rattle.sheet.specs.Line.{Line}
+use Rattle.chase.specs.Lists.{In, largest}
+use Rattle.chase.specs.Rules.{Rule, rowLines, nth}
+use Rattle.chase.specs.Value.{Value, table, missing, generation}
 use Rattle.chase.specs.Making.{Record, Fires, carriedValues}
 use Rattle.chase.specs.Run.{Firing, Reachable, start}
 use Rattle.chase.specs.Counting.{NoTwo}
-use Rattle.carrying.specs.Carrying.{Row, Pair, State}
+use Rattle.carrying.specs.Carrying.{Row, Pair, State, numbersIn, tableRows}
 
 -- A row and a pair with each number replaced by its meaning.
 abbrev pub meant : (ℕ → Value) → Row → Record
@@ -44,6 +49,21 @@ module _ (rules : List Rule) where
       pub reachable : Reachable rules rows on
       pub holds : In v (on .fields)
       pub fresh : 0 < generation v
+
+-- The values that are missing at the fields of a row, and in a table: by row and then by field.
+abbrev pub missingAt : ℕ → List (Numbered ℕ) → List Value
+missingAt row [] = []
+missingAt row (n ∷ ns) = pick (ℕ-discrete (n .item) 0) (missing row (n .number) ∷ missingAt row ns) (missingAt row ns)
+
+abbrev pub missingIn : List (Numbered Line) → List Value
+missingIn [] = []
+missingIn (l ∷ ls) = missingAt (l .number) (numbered (l .item .numbers)) ++ missingIn ls
+
+-- What a number of the filled table means: up to the table's largest value itself; after that one missing value after the other.
+abbrev pub tableMeaning : List Line → ℕ → Value
+tableMeaning lines a =
+    pick (decLe a (largest (numbersIn (tableRows lines)))) (table a)
+    (getD (missingIn (numbered (rowLines lines))) (a - suc (largest (numbersIn (tableRows lines)))) (table a))
 
 -- What the numbers below `first` mean before any rule fires: different values, none of them fresh. The table holds such numbers alone.
 pub record Numbering (table : List Row) (first : ℕ) (old : ℕ → Value) : Type 0 where

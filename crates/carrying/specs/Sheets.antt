@@ -110,10 +110,34 @@ sheets =
       result = gives (row 1 (7 ∷ 8 ∷ []) ∷ row 1 (7 ∷ 7 ∷ []) ∷ row 2 (7 ∷ []) ∷ []) 1;
     }
     ∷
-    -- P(1)→Q(2), rows P 0 and U 3. Numbers follow the largest value of the whole table; 0 is a value.
+    -- P(1)→Q(2), rows P 0 and U 3. Numbers follow the largest value of the whole table, first the 0's, then the fresh one.
     record {
       text = asText ("K        1        1" ∷ "K        2        1" ∷ "K        4        1" ∷ "B        1        1" ∷ "H        2        2" ∷ "R        1        0" ∷ "R        4        3" ∷ []);
-      result = gives (row 1 (0 ∷ []) ∷ row 4 (3 ∷ []) ∷ row 2 (4 ∷ []) ∷ []) 1;
+      result = gives (row 1 (4 ∷ []) ∷ row 4 (3 ∷ []) ∷ row 2 (5 ∷ []) ∷ []) 1;
+    }
+    ∷
+    -- P(1,1)→P(2,1), rows P 0 0, 0 0 and 7 7. Zeros are numbered by row and then by field; none equals another, so the rule fires on 7 7 alone, and rows of zeros are no repeats.
+    record {
+      text = asText ("K        1        2" ∷ "B        1        1        1" ∷ "H        1        2        1" ∷ "R        1        0        0" ∷ "R        1        0        0" ∷ "R        1        7        7" ∷ []);
+      result = gives (row 1 (8 ∷ 9 ∷ []) ∷ row 1 (10 ∷ 11 ∷ []) ∷ row 1 (7 ∷ 7 ∷ []) ∷ row 1 (12 ∷ 7 ∷ []) ∷ []) 1;
+    }
+    ∷
+    -- P(1,2)→Q(2,3), rows P 0 4, 3 4, 0 4 and 3 4. A row with a 0 is no repeat of another; the row 3 4 is.
+    record {
+      text = asText ("K        1        2" ∷ "K        2        2" ∷ "B        1        1        2" ∷ "H        2        2        3" ∷ "R        1        0        4" ∷ "R        1        3        4" ∷ "R        1        0        4" ∷ "R        1        3        4" ∷ []);
+      result = gives (row 1 (5 ∷ 4 ∷ []) ∷ row 1 (3 ∷ 4 ∷ []) ∷ row 1 (6 ∷ 4 ∷ []) ∷ row 2 (4 ∷ 7 ∷ []) ∷ []) 1;
+    }
+    ∷
+    -- P(1)→Q(1,2), rows P 0 and 0. A table of zeros alone is numbered from 1.
+    record {
+      text = asText ("K        1        1" ∷ "K        2        2" ∷ "B        1        1" ∷ "H        2        1        2" ∷ "R        1        0" ∷ "R        1        0" ∷ []);
+      result = gives (row 1 (1 ∷ []) ∷ row 1 (2 ∷ []) ∷ row 2 (1 ∷ 3 ∷ []) ∷ row 2 (2 ∷ 4 ∷ []) ∷ []) 2;
+    }
+    ∷
+    -- P(1)→Q(1,1) and Q(1,1)→T(1), row P 0. A 0 that is carried is equal to itself.
+    record {
+      text = asText ("K        1        1" ∷ "K        2        2" ∷ "K        3        1" ∷ "B        1        1" ∷ "H        2        1        1" ∷ "B        2        1        1" ∷ "H        3        1" ∷ "R        1        0" ∷ []);
+      result = gives (row 1 (1 ∷ []) ∷ row 2 (1 ∷ 1 ∷ []) ∷ row 3 (1 ∷ []) ∷ []) 2;
     }
     ∷
     -- P(1,2,1,3)→Q(1,4) and Q(1,2)→P(1,1,2,2), row P 5 6 5 7 (document 002, example 4.3).
@@ -134,9 +158,21 @@ sheets =
       result = gives (row 1 (99999999 ∷ []) ∷ row 2 (99999999 ∷ []) ∷ []) 1;
     }
     ∷
+    -- No rule, row P 99,999,998 0. The 0 gets the last number that there is.
+    record {
+      text = asText ("K        1        2" ∷ "R        1 99999998        0" ∷ []);
+      result = gives (row 1 (99999998 ∷ 99999999 ∷ []) ∷ []) 0;
+    }
+    ∷
     -- P(1)→Q(2), row 99,999,999.
     record {
       text = asText ("K        1        1" ∷ "K        2        1" ∷ "B        1        1" ∷ "H        2        2" ∷ "R        1 99999999" ∷ []);
+      result = refused 23;
+    }
+    ∷
+    -- No rule, row P 99,999,999 0. There is no number for the 0.
+    record {
+      text = asText ("K        1        2" ∷ "R        1 99999999        0" ∷ []);
       result = refused 23;
     }
     ∷

@@ -382,15 +382,22 @@ fn try_pattern(name: &[u8], numbers: &[u32], letter: u8, number: usize) -> bool 
 }
 
 fn try_patterns(sheets: Tried) -> Tried {
-    let same = try_pattern(
+    let zeros = try_pattern(
         b"pattern of (0, 0)                       ",
         &[0, 0],
         b'P',
-        2,
+        3,
     );
-    let more = count_case(sheets, same);
+    let first = count_case(sheets, zeros);
+    let between = try_pattern(
+        b"pattern of (7, 0, 7, 0)                 ",
+        &[7, 0, 7, 0],
+        b'P',
+        16,
+    );
+    let second = count_case(first, between);
     let none = try_pattern(b"pattern of no number                    ", &[], b'N', 10);
-    count_case(more, none)
+    count_case(second, none)
 }
 
 // Prints how many cases were tried, and how many of them differ. Where that cannot be written, the reason is written to standard error.

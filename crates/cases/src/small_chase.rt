@@ -2,7 +2,7 @@
 //
 // All entries have the layout of a lent line, with six numbers at the places 2 to 7:
 //   record   82, its kind, the places of its values in the table of values
-//   value    of the table: 0, 0, the value; fresh: rule and mark, its generation, the carried values
+//   value    of the table: 0, 0, the value; not given: 0, 0, 0, its line from 1, its field; fresh: rule and mark, its generation, the carried values
 //   shape    0, its kind, for each field the place of the first field that is equal
 // A rule goes by the place of its B line.
 use crate::table::add;
@@ -290,10 +290,13 @@ fn width(lines: &[u32], kind: u32) -> u32 {
     0
 }
 
-// The value of a row's field, whose number stands at place `field` + 1; 0 past the width.
-fn row_value(values: &mut [[u32; 8]], width: u32, field: u32, value: u32) -> u32 {
+// The value of a field of the row at line `n`, whose number stands at place `field` + 1; 0 past the width. A number 0 is not given: it is a value of its own.
+fn row_value(values: &mut [[u32; 8]], n: usize, width: u32, field: u32, value: u32) -> u32 {
     if width < field {
         return 0;
+    }
+    if value == 0 {
+        return narrow(add(values, [0, 0, 0, narrow(one_more(n)), field, 0, 0, 0]));
     }
     narrow(add(values, [0, 0, value, 0, 0, 0, 0, 0]))
 }
@@ -305,12 +308,12 @@ pub(crate) fn row(lines: &[u32], values: &mut [[u32; 8]], n: usize) -> [u32; 8] 
     [
         R,
         held[1],
-        row_value(values, width, 1, held[2]),
-        row_value(values, width, 2, held[3]),
-        row_value(values, width, 3, held[4]),
-        row_value(values, width, 4, held[5]),
-        row_value(values, width, 5, held[6]),
-        row_value(values, width, 6, held[7]),
+        row_value(values, n, width, 1, held[2]),
+        row_value(values, n, width, 2, held[3]),
+        row_value(values, n, width, 3, held[4]),
+        row_value(values, n, width, 4, held[5]),
+        row_value(values, n, width, 5, held[6]),
+        row_value(values, n, width, 6, held[7]),
     ]
 }
 

@@ -3,16 +3,17 @@ use mathlib.Core.Path.{_≡_, refl, sym, _∙_, ap}
 use mathlib.Core.Logic.{inl, inr}
 use mathlib.Core.List.{List, [], _∷_}
 use mathlib.Core.Option.{some}
-use Prim.Native.Nat.{ℕ, _≤_}
+use Prim.Native.Nat.{ℕ, zero, suc, _≤_}
 use native.Mathlib.Omega.{arith}
 use lib.ListN.{length}
 use Rattle.patterns.proofs.PatternLaws.{length-pattern}
 use Rattle.sheet.specs.Line.{Line}
 use Rattle.chase.specs.Lists.{In, All2}
+use Rattle.patterns.specs.Lists.{Numbered, numbered}
 use Rattle.chase.specs.Rules.{Head, Rule, rowLines, nth}
-use Rattle.chase.specs.Value.{Value, Value-discrete, table, values, generation, deepest}
+use Rattle.chase.specs.Value.{Value, Value-discrete, values, generation, deepest}
 use Rattle.chase.specs.Making.{Record, Fires, made, freshOf, makes}
-use Rattle.chase.specs.Run.{rowRecord, rowsOf, Reachable, row, madeFrom}
+use Rattle.chase.specs.Run.{rowValue, rowRecord, rowsOf, Reachable, row, madeFrom}
 use Rattle.chase.specs.Shape.{Shape, shapeOf}
 use Rattle.chase.specs.Judge.{Bounded}
 use Rattle.chase.specs.Certificate.{asRecord, shapeMade, largest, newGeneration, Listed, shapesOf, deepestOf, Covers, ClosedList}
@@ -22,17 +23,22 @@ use Rattle.chase.proofs.ShapeLaws.{fires-shape, made-shapeMade}
 use Rattle.chase.proofs.RunLaws.{keep-run-start}
 use Rattle.chase.proofs.StepLaws.{as-record-shape}
 
--- Rows hold table values.
+-- Rows hold table values and missing ones.
 pub record TableRows (rows : List Record) : Type 0 where
   pub zero : (x : Record) (v : Value) → In x rows → In v (x .fields) → generation v ≡ 0
+
+pub value-generation : (k i n : ℕ) → generation (rowValue k i n) ≡ 0
+value-generation k i zero = refl
+value-generation k i (suc n) = refl
 
 pub rows-of-tables : (lines : List Line) → TableRows (rowsOf lines)
 rows-of-tables lines =
     record {
       zero = λ x v i j.
-          let s = map-in rowRecord (rowLines lines) x i in
-          let t = map-in table (s .0 .numbers) v (rw (s .2) at j) in
-          ap generation (t .2);
+          let s = map-in rowRecord (numbered (rowLines lines)) x i in
+          let k = s .0 .number in
+          let t = map-in (λ (n : Numbered ℕ). rowValue k (n .number) (n .item)) (numbered (s .0 .item .numbers)) v (rw (s .2) at j) in
+          ap generation (t .2) ∙ value-generation k (t .0 .number) (t .0 .item);
     }
 
 -- A value of a generation at most this.

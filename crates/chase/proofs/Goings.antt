@@ -7,6 +7,7 @@ use Prim.Native.Nat.{ℕ, zero, suc}
 use native.Mathlib.Decide.{ℕ-discrete}
 use Rattle.patterns.specs.Pattern.{pick}
 use Rattle.chase.specs.Lists.{options-discrete, In, in?}
+pub use Rattle.patterns.specs.Lists.{Numbered, next, numbered}
 use Rattle.chase.specs.Rules.{Head, Rule, nth}
 use Rattle.chase.specs.Value.{Value, Value-discrete}
 use Rattle.chase.specs.Making.{Record, Fires, fires?, valueOf, carriedValues}
@@ -14,19 +15,8 @@ use Rattle.chase.specs.Steps.{Step, Goes, Reaching, Moves}
 use Rattle.chase.proofs.ListLaws.{in-left, in-right, in-append, in-map, map-in, in-place}
 use Rattle.chase.proofs.StepLaws.{carried-value, mark-stands}
 
--- The elements of a list with their numbers, which count from 1.
-pub record Numbered (A : Type 0) : Type 0 where
-  pub number : ℕ
-  pub item : A
-
+-- The elements of a list with their numbers.
 module _ {A : Type 0} where
-  abbrev pub next : Numbered A → Numbered A
-  next p = record { number = suc (p .number); item = p .item }
-
-  abbrev pub numbered : List A → List (Numbered A)
-  numbered [] = []
-  numbered (x ∷ l) = record { number = 1; item = x } ∷ map next (numbered l)
-
   pub in-numbered : (l : List A) (n : ℕ) (x : A) → nth l n ≡ some x → In (record { number = n; item = x }) (numbered l)
   in-numbered l zero x e = absurd (Option·none-ne-some x e)
   in-numbered [] (suc n) x e = absurd (Option·none-ne-some x e)

@@ -15,7 +15,8 @@ use Rattle.chase.specs.Run.{rowsOf}
 use Rattle.chase.specs.Shape.{Reached, Fired}
 use Rattle.chase.specs.Counting.{Count, share}
 use Rattle.chase.specs.Judge.{Verdict, Bounded, Unbounded, Right, Refuses, short, wrong, many, stepLimit}
-use Rattle.chase.proofs.CountLaws.{count-one, more-than-count}
+use Rattle.chase.proofs.CountLaws.{count-one, count-iff, more-than-count}
+use Rattle.chase.proofs.TwinLaws.{SameShapes, reached-by-shapes, fired-by-shapes, says-by-shapes}
 use Rattle.chase.proofs.CertificateLaws.{Met, not-both, Says, settles, endless, answer-says, says-one}
 
 -- What an answer says decides whether the generations have a bound.
@@ -37,7 +38,7 @@ module _ (limit : ℕ) (numbers before : List ℕ) where
   lines-one : (ls ms : List Line) → sheetHeld numbers ≡ good ls → sheetHeld numbers ≡ good ms → ls ≡ ms
   lines-one ls ms p q = cc
 
-  good-or-refused : (ls : List Line) (n k : ℕ) → sheetHeld numbers ≡ good ls → sheetHeld numbers ≡ refused n k → ⊥
+  pub good-or-refused : (ls : List Line) (n k : ℕ) → sheetHeld numbers ≡ good ls → sheetHeld numbers ≡ refused n k → ⊥
   good-or-refused ls n k p q = false≢true cc
 
   -- What a right answer says of the sheet.
@@ -98,3 +99,33 @@ module _ (limit : ℕ) (numbers before : List ℕ) where
   refusal-one n k m l (many lines h e c) (short i) = absurd (omega arith)
   refusal-one n k m l (many lines h e c) (wrong line i f) = absurd (good-or-refused lines 8 line e f)
   refusal-one n k m l (many lines h e c) (many others i f d) = (refl, refl)
+
+-- The figures of two sheets with the same rules and rows of the same shapes.
+pub figures-same : (limit : ℕ) (numbers others before later : List ℕ) (ls ms : List Line) (v w : Verdict) (now then : List ℕ)
+    → sheetHeld numbers ≡ good ls → sheetHeld others ≡ good ms → rulesOf ls ≡ rulesOf ms → SameShapes (rowsOf ls) (rowsOf ms)
+    → Right limit numbers before v now → Right limit others later w then
+    → (v .verdict ≡ w .verdict) × (v .deepest ≡ w .deepest) × (v .shapes ≡ w .shapes) × (v .fired ≡ w .fired) × (v .share ≡ w .share)
+figures-same limit numbers others before later ls ms v w now then p q rules same r s =
+    let rl = rulesOf ls in
+    let there : Says rl (rowsOf ms) (v .verdict) (v .deepest) =
+    says-by-shapes rl (rowsOf ls) (rowsOf ms) same (v .verdict) (v .deepest) (right-says limit numbers before v now ls r p) in
+    let here : Says rl (rowsOf ms) (w .verdict) (w .deepest) =
+    subst (λ (k : List Rule). Says k (rowsOf ms) (w .verdict) (w .deepest)) (sym rules) (right-says limit others later w then ms s q) in
+    let a = says-one rl (rowsOf ms) (v .verdict) (v .deepest) (w .verdict) (w .deepest) there here in
+    let shapes : Count (Reached rl (rowsOf ms)) (v .shapes) =
+    count-iff (Reached rl (rowsOf ls)) (Reached rl (rowsOf ms)) (v .shapes) (λ t. reached-by-shapes rl (rowsOf ls) (rowsOf ms) same t .0)
+    (λ t. reached-by-shapes rl (rowsOf ls) (rowsOf ms) same t .1) (right-shapes limit numbers before v now ls r p) in
+    let fired : Count (Fired rl (rowsOf ms)) (v .fired) =
+    count-iff (Fired rl (rowsOf ls)) (Fired rl (rowsOf ms)) (v .fired) (λ t. fired-by-shapes rl (rowsOf ls) (rowsOf ms) same t .0)
+    (λ t. fired-by-shapes rl (rowsOf ls) (rowsOf ms) same t .1) (right-fired limit numbers before v now ls r p) in
+    let c = count-one (Reached rl (rowsOf ms)) (v .shapes) (w .shapes) shapes
+    (subst (λ (k : List Rule). Count (Reached k (rowsOf ms)) (w .shapes)) (sym rules) (right-shapes limit others later w then ms s q)) in
+    let f = count-one (Fired rl (rowsOf ms)) (v .fired) (w .fired) fired
+    (subst (λ (k : List Rule). Count (Fired k (rowsOf ms)) (w .fired)) (sym rules) (right-fired limit others later w then ms s q)) in (
+      a .0,
+      a .1,
+      c,
+      f,
+      right-share limit numbers before v now ls r p ∙ ap (λ (n : ℕ). share n (length rl)) f ∙ ap (λ (k : List Rule). share (w .fired) (length k)) rules
+          ∙ sym (right-share limit others later w then ms s q),
+    )

@@ -20,9 +20,13 @@ pub mod DepthLaws
 pub mod QueueLaws
 pub mod DerivationLaws
 pub mod Share
+pub mod TwinLaws
 pub mod JudgeLaws
 pub mod Decisions
 pub mod Goings
+pub mod RowLaws
+pub mod FillLaws
+pub mod AlikeLaws
 pub mod SmallChase
 pub mod LoopCheck
 pub mod LoopSearch

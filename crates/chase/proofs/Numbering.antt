@@ -9,6 +9,7 @@ use native.Mathlib.Decide.{ℕ-discrete}
 use native.Mathlib.Omega.{arith}
 use lib.ListN.{length, getElem?}
 use borrow.Author.Tests.{eq-eqb}
+use Rattle.patterns.specs.Lists.{numbered}
 use Rattle.columns.specs.Column.{column, numberIn}
 use Rattle.sheet.specs.Line.{B, R, Line, lineIn, formOf}
 use Rattle.sheet.specs.Sheet.{inPlace, kindRight, marksRight, roomFor, refusal}
@@ -22,6 +23,7 @@ use Rattle.chase.specs.Shape.{Fired}
 use Rattle.chase.specs.Counting.{Count}
 use Rattle.chase.specs.Cases.{asText}
 use Rattle.chase.proofs.CountLaws.{pigeonhole, element-below, fired-below}
+use Rattle.chase.proofs.RowLaws.{row-named}
 use Rattle.chase.proofs.CaseCheck.{linesIn}
 
 -- Rules, H lines, rows and fields count from 1: the numbers of a list's elements are 1 to its length,
@@ -42,9 +44,13 @@ numbers-from-one l n = (λ s. below l n (s .0) (s .1), λ s. there l n (s .0) (s
     there l (suc n) p k = element l n (omega arith)
 
 -- and the first R line is row 1.
-pub first-row-is-one : (l : Line) (ls : List Line) → l .letter ≡ R → nth (rowsOf (l ∷ ls)) 1 ≡ some (rowRecord l)
+pub first-row-is-one : (l : Line) (ls : List Line) → l .letter ≡ R → nth (rowsOf (l ∷ ls)) 1 ≡ some (rowRecord (record { number = 1; item = l }))
 first-row-is-one l ls e =
-    ap (λ (b : Bool). nth (map rowRecord (cond b (l ∷ rowLines ls) (rowLines ls))) 1) (eq-eqb (l .letter) R e)
+    ap (λ (b : Bool). nth (map rowRecord (numbered (cond b (l ∷ rowLines ls) (rowLines ls)))) 1) (eq-eqb (l .letter) R e)
+
+-- A row has the number that its R line has among the R lines; a value that is missing there has it too.
+pub row-has-its-number : (ls : List Line) (k : ℕ) (l : Line) → nth (rowLines ls) k ≡ some l → nth (rowsOf ls) k ≡ some (rowRecord (record { number = k; item = l }))
+row-has-its-number = row-named
 
 -- Each B line is a rule, whether or not an equal one stands elsewhere.
 pub each-body-is-a-rule : (l : Line) (ls : List Line) → l .letter ≡ B

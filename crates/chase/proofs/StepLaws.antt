@@ -64,7 +64,7 @@ module _ {A B : Type 0} (R : A → B → Type 0) where
   nth-rel xs ys (suc i) a = element-rel xs ys i a
 
   -- Where the one is there, so is the other.
-  rel-some : (o : Option A) (p : Option B) (x : A) → OptR R o p → o ≡ some x → (y : B) × (p ≡ some y) × R x y
+  pub rel-some : (o : Option A) (p : Option B) (x : A) → OptR R o p → o ≡ some x → (y : B) × (p ≡ some y) × R x y
   rel-some none p x r e = absurd (Option·none-ne-some x e)
   rel-some (some z) none x r e = absurd r
   rel-some (some z) (some y) x r e = let q : z ≡ x = cc in (y, refl, subst (λ (w : A). R w y) q r)
@@ -315,6 +315,17 @@ module _ (rules : List Rule) where
     each-shape x s (st ∷ ss) e a =
         let p = on-record st x s e (a .0) in
         (p, each-shape (after rules st x) (shapeAfter rules st s) ss (step-shape st x s e (by .goes st x p)) (a .1))
+
+    pub shape-each : (x : Record) (s : Shape) (steps : List Step) → shapeOf x ≡ s → Each rules P x steps → EachShape rules P s steps
+    shape-each x s [] e a = tt
+    shape-each x s (st ∷ ss) e a = (
+      by .shape st x (asRecord s) (sym (as-record-shape x s e)) (a .0),
+      shape-each (after rules st x) (shapeAfter rules st s) ss (step-shape st x s e (by .goes st x (a .0))) (a .1),
+    )
+
+    -- So they are steps on every record of the same shape.
+    pub each-same : (x y : Record) (steps : List Step) → shapeOf x ≡ shapeOf y → Each rules P x steps → Each rules P y steps
+    each-same x y steps e a = each-shape y (shapeOf x) steps (sym e) (shape-each x (shapeOf x) steps refl a)
 
     pub each-goes : (x : Record) (steps : List Step) → Each rules P x steps → Each rules (Goes rules) x steps
     each-goes x steps a = each-weaken rules P (Goes rules) (by .goes) x steps a

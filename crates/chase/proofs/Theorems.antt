@@ -1,19 +1,23 @@
 -- The theorems on the chase that a reader relies on. Each stands first as a sentence; its proof cites the laws. Assumes nothing.
-use mathlib.Core.Path.{_≡_, ap, _∙_}
+use mathlib.Core.Path.{_≡_, sym, ap, _∙_}
 use mathlib.Core.Bool.{false≢true}
 use mathlib.Core.Logic.{_↔_, _⊎_}
-use mathlib.Core.List.{List, _∷_}
+use mathlib.Core.List.{List, _∷_, map}
+use mathlib.Core.Option.{some}
 use Prim.Native.Nat.{ℕ, _≤_, _<_}
 use lib.ListN.{length}
 use Rattle.sheet.specs.Line.{Line}
+use Rattle.patterns.specs.Lists.{Numbered, numbered}
 use Rattle.patterns.specs.Outcome.{good}
+use Rattle.patterns.specs.Pattern.{numbersPattern}
 use Rattle.chase.specs.Lists.{In}
 use Rattle.sheet.specs.Write.{sheetHeld}
 use Rattle.chase.specs.Rules.{Head, Rule, rulesOf, nth}
-use Rattle.chase.specs.Value.{Value, table, generation}
+use Rattle.chase.specs.Value.{Value, table, missing, generation}
 use Rattle.chase.specs.Making.{Record, Agree, carriedValues, Fires, freshOf, made}
-use Rattle.chase.specs.Run.{Firing, rowsOf, start, fire, run, Fits, AllFit, Reachable}
-use Rattle.chase.specs.Shape.{Shape, Reached, Fired}
+use Rattle.chase.specs.Run.{Firing, rowRecord, rowsOf, start, fire, run, Fits, AllFit, Reachable}
+use Rattle.chase.specs.Shape.{Shape, shapeOf, Reached, Fired}
+use Rattle.chase.specs.Filled.{FilledTable}
 use Rattle.chase.specs.Counting.{NoTwo, Count, share}
 use Rattle.chase.specs.Rounding.{Rounds}
 use Rattle.chase.specs.Chase.{Instance, ChaseOf, FiniteDerivation, FairDerivation}
@@ -27,7 +31,11 @@ use Rattle.chase.proofs.CountLaws.{count-iff, fired-below}
 use Rattle.chase.proofs.AgreeLaws.{agree-places, places-agree}
 use Rattle.chase.proofs.CertificateLaws.{not-both}
 use Rattle.chase.proofs.FiniteLaws.{finite-bounded, bounded-finite}
-use Rattle.chase.proofs.JudgeLaws.{verdict-settles, verdict-endless, verdict-deepest, right-share, figures-one, judged-not-refused, refusal-one}
+use Rattle.chase.proofs.JudgeLaws.{verdict-settles, verdict-endless, verdict-deepest, right-share, figures-one, figures-same, judged-not-refused, refusal-one}
+use Rattle.chase.proofs.RowLaws.{row-values-equal, rows-same, row-pattern}
+use Rattle.chase.proofs.TwinLaws.{SameShapes, reached-by-shapes, fired-by-shapes, bounded-by-shapes, unbounded-by-shapes}
+use Rattle.chase.proofs.FillLaws.{filled-table}
+use Rattle.chase.proofs.AlikeLaws.{meets-alike}
 use Rattle.chase.proofs.Share.{share-of-nothing, share-means}
 
 -- FRESH NUMBERS
@@ -40,10 +48,34 @@ fresh-fixed n m k l cs ds = (freshOf-injective n m k l cs ds, λ s. let (p, q, r
 pub fresh-not-table : (n m k : ℕ) (cs : List Value) → freshOf n m cs ≡ table k → ⊥
 fresh-not-table n m k cs e = false≢true cc
 
+-- A missing value equals no table value and no fresh number.
+pub missing-not-table : (row field k : ℕ) → missing row field ≡ table k → ⊥
+missing-not-table row field k e = false≢true cc
+
+pub fresh-not-missing : (n m row field : ℕ) (cs : List Value) → freshOf n m cs ≡ missing row field → ⊥
+fresh-not-missing n m row field cs e = false≢true cc
+
 -- Where a rule fires on two records with the same carried values, each of its H lines makes the same record of both.
 pub same-carried-same-made : (n : ℕ) (r : Rule) (x y : Record) → Fires r x → Fires r y → carriedValues r (x .fields) ≡ carriedValues r (y .fields)
     → (h : Head) → In h (r .heads) → made n r x h ≡ made n r y h
 same-carried-same-made = same-carried-made
+
+-- ROWS
+
+-- The values at two fields of a row are equal exactly where it is one field, or the numbers are equal and not 0.
+pub values-of-a-row : (l : Numbered Line) (i j m n : ℕ) → nth (l .item .numbers) i ≡ some m → nth (l .item .numbers) j ≡ some n
+    → (nth (rowRecord l .fields) i ≡ nth (rowRecord l .fields) j) ↔ ((i ≡ j) ⊎ ((m ≡ n) × (m ≡ 0 → ⊥)))
+values-of-a-row l i j m n p q = row-values-equal l i j m n p q
+
+-- Two rows are the same record exactly where they are equal and without 0.
+pub rows-are-one-record : (k l : ℕ) (a b : Line) → (k ≡ l → ⊥)
+    → (rowRecord (record { number = k; item = a }) ≡ rowRecord (record { number = l; item = b }))
+    ↔ ((a .kind ≡ b .kind) × (a .numbers ≡ b .numbers) × (In 0 (a .numbers) → ⊥))
+rows-are-one-record k l a b h = rows-same k l a b h
+
+-- The pattern of a row is that of its numbers, as Pattern answers it.
+pub pattern-of-a-row : (l : Numbered Line) → shapeOf (rowRecord l) .pattern ≡ numbersPattern (l .item .numbers)
+pattern-of-a-row l = row-pattern l
 
 -- FIRING
 
@@ -180,8 +212,8 @@ module _ (limit : ℕ) (numbers before : List ℕ) (v : Verdict) (now : List ℕ
 
   -- With rules it is within a half of 100 × fired rules / rules, and even where it is just a half away. No other number is so (`share-means` in Share).
   pub share-is-nearest : 0 < length (rulesOf lines) → Rounds (v .fired) (length (rulesOf lines)) (v .share)
-  share-is-nearest some =
-      share-means (v .fired) (length (rulesOf lines)) (v .share) some .0 (right-share limit numbers before v now lines (meets .1) sheet)
+  share-is-nearest rules =
+      share-means (v .fired) (length (rulesOf lines)) (v .share) rules .0 (right-share limit numbers before v now lines (meets .1) sheet)
 
 -- The figures that two verdicts have in common; the starting row and the steps are the program's choice.
 pub record SameFigures (v w : Verdict) : Type 0 where
@@ -207,3 +239,43 @@ judge-one limit numbers before (judged v) (judged w) now later p q =
 judge-one limit numbers before (judged v) (refuses m l) now later p q = judged-not-refused limit numbers before v now m l (p .0) (p .1) (q .0)
 judge-one limit numbers before (refuses n k) (judged w) now later p q = judged-not-refused limit numbers before w later n k (q .0) (q .1) (p .0)
 judge-one limit numbers before (refuses n k) (refuses m l) now later p q = refusal-one limit numbers before n k m l (p .0) (q .0)
+
+-- TABLES OF THE SAME SHAPES
+
+-- Reached shapes, fired rules, the bounds of generations, and whether there is one depend on the shapes of the rows alone.
+module _ (rules : List Rule) (rows others : List Record) (same : SameShapes rows others) where
+  pub same-reached : (s : Shape) → Reached rules rows s ↔ Reached rules others s
+  same-reached = reached-by-shapes rules rows others same
+
+  pub same-fired : (n : ℕ) → Fired rules rows n ↔ Fired rules others n
+  same-fired = fired-by-shapes rules rows others same
+
+  pub same-bounds : (d : ℕ) → Bounded rules rows d ↔ Bounded rules others d
+  same-bounds = bounded-by-shapes rules rows others same
+
+  pub same-unbounded : Unbounded rules rows ↔ Unbounded rules others
+  same-unbounded = unbounded-by-shapes rules rows others same
+
+-- So two sheets with the same rules whose rows have the same shapes have the same figures.
+pub figures-by-shapes : (limit : ℕ) (numbers others before later : List ℕ) (ls ms : List Line) (v w : Verdict) (now then : List ℕ)
+    → sheetHeld numbers ≡ good ls → sheetHeld others ≡ good ms → rulesOf ls ≡ rulesOf ms → SameShapes (rowsOf ls) (rowsOf ms)
+    → JudgeMeets limit numbers before (judged v) now → JudgeMeets limit others later (judged w) then → SameFigures v w
+figures-by-shapes limit numbers others before later ls ms v w now then p q rules same m n =
+    let (verdict, deepest, shapes, fired, share) = figures-same limit numbers others before later ls ms v w now then p q rules same (m .1) (n .1) in
+    record { verdict = verdict; deepest = deepest; shapes = shapes; fired = fired; share = share }
+
+-- Where the rows have the same shapes one by one, every answer that Judge may give to the one sheet it may give to the other: refusal or figures, row, trail and loop.
+pub answers-by-shapes : (limit : ℕ) (numbers others before : List ℕ) (ls ms : List Line) → sheetHeld numbers ≡ good ls → sheetHeld others ≡ good ms
+    → rulesOf ls ≡ rulesOf ms → map shapeOf (rowsOf ls) ≡ map shapeOf (rowsOf ms) → (j : Judgement) (now : List ℕ)
+    → JudgeMeets limit numbers before j now ↔ JudgeMeets limit others before j now
+answers-by-shapes limit numbers others before ls ms p q rules shapes j now = (
+  meets-alike limit numbers others before ls ms p q rules shapes j now,
+  meets-alike limit others numbers before ms ls q p (sym rules) (sym shapes) j now,
+)
+
+-- So for Judge it is all one which numbers stand for what is not given: replacing each 0 of a row by a number that stands nowhere else there changes no answer.
+pub zeros-filled : (limit : ℕ) (numbers others before : List ℕ) (ls ms : List Line) → sheetHeld numbers ≡ good ls → sheetHeld others ≡ good ms
+    → rulesOf ls ≡ rulesOf ms → FilledTable ls ms → (j : Judgement) (now : List ℕ)
+    → JudgeMeets limit numbers before j now ↔ JudgeMeets limit others before j now
+zeros-filled limit numbers others before ls ms p q rules filled j now =
+    answers-by-shapes limit numbers others before ls ms p q rules (filled-table ls ms filled) j now

@@ -14,4 +14,5 @@ pub mod Chase
 pub mod Simplification
 pub mod Certificate
 pub mod Cases
+pub mod Filled
 pub mod inner

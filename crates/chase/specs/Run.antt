@@ -3,21 +3,27 @@ use mathlib.Core.Path.{_≡_}
 use mathlib.Core.List.{List, [], _∷_, map}
 use mathlib.Core.Option.{Option, none, some}
 use mathlib.Core.Logic.{_⊎_}
-use Prim.Native.Nat.{ℕ}
+use Prim.Native.Nat.{ℕ, zero, suc}
 use Rattle.sheet.specs.Line.{Line}
 use Rattle.patterns.specs.Pattern.{pick, addAll}
 use Rattle.chase.specs.Lists.{both?, In, in?}
+use Rattle.patterns.specs.Lists.{Numbered, numbered}
 use Rattle.chase.specs.Rules.{Head, Rule, rowLines, nth}
-use Rattle.chase.specs.Value.{table}
+use Rattle.chase.specs.Value.{Value, table, missing}
 use Rattle.chase.specs.Making.{Record, Record-discrete, Fires, fires?, made}
 
--- What a row's numbers mean.
-abbrev pub rowRecord : Line → Record
-rowRecord l = record { kind = l .kind; fields = map table (l .numbers) }
+-- What the number at a field of a row means (change request 4): 0 is not given, and a value of its own.
+abbrev pub rowValue : ℕ → ℕ → ℕ → Value
+rowValue row field zero = missing row field
+rowValue row field (suc n) = table (suc n)
+
+-- What a row's numbers mean. Rows and fields count from 1.
+abbrev pub rowRecord : Numbered Line → Record
+rowRecord l = record { kind = l .item .kind; fields = map (λ n. rowValue (l .number) (n .number) (n .item)) (numbered (l .item .numbers)) }
 
 -- The table's rows, in sheet order.
 abbrev pub rowsOf : List Line → List Record
-rowsOf ls = map rowRecord (rowLines ls)
+rowsOf ls = map rowRecord (numbered (rowLines ls))
 
 -- A firing names a rule, by its number, and a record, whichever it likes. (A trigger.)
 pub record Firing : Type 0 where

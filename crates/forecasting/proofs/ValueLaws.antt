@@ -3,7 +3,7 @@ use mathlib.Core.Path.{_≡_, refl, sym, _∙_, ap, subst}
 use mathlib.Core.Logic.{inl, inr}
 use mathlib.Core.Bool.{true, false}
 use mathlib.Core.List.{List, [], _∷_, _++_, append-nil, append-assoc}
-use Prim.Native.Nat.{ℕ, suc, _+_, _*_, _-_, _/_, _%_, _≤_, _<_}
+use Prim.Native.Nat.{ℕ, zero, suc, _+_, _*_, _-_, _/_, _%_, _≤_, _<_}
 use native.Mathlib.Decide.{ℕ-discrete}
 use native.Mathlib.Numerals.{add-one}
 use native.Mathlib.Omega.{arith}
@@ -17,14 +17,16 @@ use Rattle.patterns.proofs.ListLaws.{in-left, in-right, in-append}
 use Rattle.rules.specs.Table.{SheetHeld, linesIn}
 use Rattle.rules.specs.inner.Bytes.{Clear}
 use Rattle.rules.specs.inner.Rows.{rowNumbers}
-use Rattle.rules.proofs.SheetLaws.{lineNo, lent-line, size-held, rows-where}
+use Rattle.rules.proofs.SheetLaws.{lineNo, lent-line, held-lines, size-held, rows-few, rows-where}
 use Rattle.rules.proofs.PartLaws.{zeros}
 use Rattle.rules.proofs.RowLaws.{Reading, reading-begun, row-width, row-at, read-row}
 use Rattle.chains.specs.inner.Chains.{FoundAt}
 use Rattle.chains.proofs.ChainLaws.{Searching, search-begin, search-place, search-next, search-less, found-here, found-nowhere, chains-push, chains-alike}
 use Rattle.growth.specs.Forecast.{firstT}
+use Rattle.carrying.specs.Carrying.{zeros as zerosIn}
+use Rattle.carrying.proofs.FilledLaws.{zeros-append}
 use Rattle.growth.proofs.LoopLaws.{different, different-old, different-new, numbersOf, first-by-numbers}
-use Rattle.forecasting.specs.inner.Values.{bucketOf, bucketAt, IsAt, Stored, AreOf, Added}
+use Rattle.forecasting.specs.inner.Values.{bucketOf, bucketAt, IsAt, Stored, AreOf, Added, ValuesAre}
 
 pub bucket-is : (by x : ℕ) → x * by % 4294967296 / 1048576 ≡ bucketOf by x
 unfolding bucketOf
@@ -160,6 +162,37 @@ module _ {by : ℕ} {values : List ℕ} {count : ℕ} (row : List ℕ) {k : ℕ}
   pub added-all : length row ≤ k → Added by values count row values' heads' next' r
   added-all h = subst (λ (xs : List ℕ). Added by values count xs values' heads' next' r) (take-all k row h) a
 
+-- ---- the zeros of a row
+
+-- How many of the first k values are 0.
+pub record ZerosTo (row : List ℕ) (k r : ℕ) : Type 0 where
+  pub within : k ≤ length row
+  pub are : r ≡ zerosIn (take k row)
+  pub few : r ≤ k
+
+pub zeros-none : (row : List ℕ) → ZerosTo row 0 0
+zeros-none row = record { within = omega arith; are = refl; few = omega arith }
+
+module _ {row : List ℕ} {k r : ℕ} (z : ZerosTo row k r) (h : k < length row) where
+  zeros-next : zerosIn (take (k + 1) row) ≡ r + zerosIn (getD row k 0 ∷ [])
+  zeros-next =
+      omega (arith, ap zerosIn (ap (λ (j : ℕ). take j row) (add-one k) ∙ take-suc row k 0 h), zeros-append (take k row) (getD row k 0 ∷ []), z .are)
+
+  pub zeros-one : getD row k 0 ≡ 0 → ZerosTo row (k + 1) (r + 1)
+  zeros-one e =
+      let one : zerosIn (getD row k 0 ∷ []) ≡ 1 = ap (λ (x : ℕ). zerosIn (x ∷ [])) e in
+      record { within = omega arith; are = omega (arith, zeros-next, one); few = omega (arith, z .few) }
+
+  pub zeros-other : (getD row k 0 ≡ 0 → ⊥) → ZerosTo row (k + 1) r
+  zeros-other d = record { within = omega arith; are = omega (arith, zeros-next, none (getD row k 0) d); few = omega (arith, z .few) }
+    where
+      none : (x : ℕ) → (x ≡ 0 → ⊥) → zerosIn (x ∷ []) ≡ 0
+      none zero d = absurd (d refl)
+      none (suc x) d = refl
+
+pub zeros-all : {row : List ℕ} {k r : ℕ} → ZerosTo row k r → length row ≤ k → (r ≡ zerosIn row) × (r ≤ length row)
+zeros-all {row} {k} z h = (z .are ∙ ap zerosIn (take-all k row h), omega (arith, z .few, z .within))
+
 -- ---- the rows
 
 -- The part of the lines that has the values of the row at line n, whose kind has this width.
@@ -167,25 +200,27 @@ abbrev pub rowPart : List ℕ → ℕ → ℕ → List ℕ
 rowPart lines n width = take (8 * n + 2 + width - (8 * n + 2)) (drop (8 * n + 2) lines)
 
 -- The values of the rows among the first n lines are added.
-pub record Counting (lines widths : List ℕ) (by : ℕ) (values heads next : List ℕ) (count n : ℕ) : Type 0 where
+pub record Counting (lines widths : List ℕ) (by : ℕ) (values heads next : List ℕ) (count zeroes n : ℕ) : Type 0 where
   pub row : ℕ
   pub reading : Reading lines widths row n
   pub stored : Stored by values heads next count
   pub few : count ≤ 6 * row
+  pub few-zeros : zeroes ≤ 6 * row
   pub past : List ℕ
   pub are : AreOf values count past
+  pub zeros-are : zeroes ≡ zerosIn past
   pub rest : past ++ numbersOf (rowLines (drop n (linesIn lines))) ≡ numbersOf (rowLines (linesIn lines))
 
-pub count-none : (lines : List ℕ) {by : ℕ} {values heads next : List ℕ} → Stored by values heads next 0 → Counting lines (zeros 65) by values heads next 0 0
+pub count-none : (lines : List ℕ) {by : ℕ} {values heads next : List ℕ} → Stored by values heads next 0 → Counting lines (zeros 65) by values heads next 0 0 0
 count-none lines {values = values} s =
-    record { row = 0; reading = reading-begun lines; stored = s; few = omega arith; past = []; are = none-are values; rest = refl }
+    record { row = 0; reading = reading-begun lines; stored = s; few = omega arith; few-zeros = omega arith; past = []; are = none-are values; zeros-are = refl; rest = refl }
 
-module _ {lines widths : List ℕ} {by : ℕ} {values heads next : List ℕ} {count n : ℕ} (sheet : SheetHeld lines) (c : Counting lines widths by values heads next count n)
+module _ {lines widths : List ℕ} {by : ℕ} {values heads next : List ℕ} {count zeroes n : ℕ} (sheet : SheetHeld lines) (c : Counting lines widths by values heads next count zeroes n)
     (more : 8 * n < length lines) where
   abbrev line : Line
   line = lineNo (linesIn lines) n
 
-  pub count-other : {widths' : List ℕ} → (getD lines (8 * n) 0 ≡ 82 → ⊥) → Reading lines widths' (c .row) (n + 1) → Counting lines widths' by values heads next count (n + 1)
+  pub count-other : {widths' : List ℕ} → (getD lines (8 * n) 0 ≡ 82 → ⊥) → Reading lines widths' (c .row) (n + 1) → Counting lines widths' by values heads next count zeroes (n + 1)
   count-other e r =
       let h = lent-line sheet n more in
       record {
@@ -193,8 +228,10 @@ module _ {lines widths : List ℕ} {by : ℕ} {values heads next : List ℕ} {co
         reading = r;
         stored = c .stored;
         few = c .few;
+        few-zeros = c .few-zeros;
         past = c .past;
         are = c .are;
+        zeros-are = c .zeros-are;
         rest =
             ap (λ (ls : List Line). c .past ++ numbersOf ls)
             (sym (rows-where (linesIn lines) n (h .inside) false (ne-eqb (line .letter) R (λ q. e (h .letter ∙ q))))) ∙ c .rest;
@@ -218,16 +255,23 @@ module _ {lines widths : List ℕ} {by : ℕ} {values heads next : List ℕ} {co
     row-room =
         omega (arith, ap length numbers-are, lent-line sheet n more .fits .few, c .few, row-at lines widths (c .row) n sheet (c .reading) more e .low)
 
-    pub count-row : {values' heads' next' : List ℕ} {count' : ℕ} → Added by values count (rowPart lines n width) values' heads' next' count'
-        → Counting lines widths by values' heads' next' count' (n + 1)
-    count-row {values'} {heads'} {next'} {count'} a =
+    pub zeros-room : zeroes + length (rowPart lines n width) ≤ 6144
+    zeros-room =
+        omega (arith, ap length numbers-are, lent-line sheet n more .fits .few, c .few-zeros, row-at lines widths (c .row) n sheet (c .reading) more e .low)
+
+    pub count-row : {values' heads' next' : List ℕ} {count' zeroes' : ℕ} → Added by values count (rowPart lines n width) values' heads' next' count'
+        → zeroes' ≡ zerosIn (rowPart lines n width) → zeroes' ≤ length (rowPart lines n width)
+        → Counting lines widths by values' heads' next' count' (zeroes + zeroes') (n + 1)
+    count-row {values'} {heads'} {next'} {count'} {zeroes'} a is low =
         let h = lent-line sheet n more in
         record {
           row = c .row + 1;
           reading = read-row lines widths (c .row) n sheet (c .reading) more e;
           stored = a .stored;
           few = omega (arith, a .few, c .few, ap length numbers-are, h .fits .few);
+          few-zeros = omega (arith, low, c .few-zeros, ap length numbers-are, h .fits .few);
           past = c .past ++ line .numbers;
+          zeros-are = omega (arith, c .zeros-are, is, ap zerosIn numbers-are, zeros-append (c .past) (line .numbers));
           are = subst (λ (xs : List ℕ). AreOf values' count' (c .past ++ xs)) numbers-are (a .are (c .past) (c .are));
           rest =
               append-assoc (c .past) (line .numbers) (numbersOf (rowLines (drop (n + 1) (linesIn lines))))
@@ -236,9 +280,15 @@ module _ {lines widths : List ℕ} {by : ℕ} {values heads next : List ℕ} {co
         }
 
 -- All lines are read.
-pub count-all : {lines widths : List ℕ} {by : ℕ} {values heads next : List ℕ} {count n : ℕ} → SheetHeld lines → Counting lines widths by values heads next count n
-    → length lines ≤ 8 * n → (count ≡ firstT (linesIn lines)) × (count ≤ 6144)
-count-all {lines} {n = n} sheet c h = (c .are .counted ∙ ap (different ℕ-discrete) all ∙ sym (first-by-numbers (linesIn lines)), c .stored .chain .small)
+pub count-all : {lines widths : List ℕ} {by : ℕ} {values heads next : List ℕ} {count zeroes n : ℕ} → SheetHeld lines
+    → Counting lines widths by values heads next count zeroes n → length lines ≤ 8 * n → ValuesAre lines count zeroes
+count-all {lines} {n = n} sheet c h =
+    record {
+      different-are = c .are .counted ∙ ap (different ℕ-discrete) all;
+      zeros-are = c .zeros-are ∙ ap zerosIn all;
+      few = c .stored .chain .small;
+      few-zeros = omega (arith, c .few-zeros, rows-few (linesIn lines) (held-lines sheet .1), ap (λ (ls : List Line). length (rowLines ls)) (take-all n (linesIn lines) whole), c .reading .rows-are);
+    }
   where
     whole : length (linesIn lines) ≤ n
     whole = omega (arith, size-held sheet)
@@ -247,3 +297,11 @@ count-all {lines} {n = n} sheet c h = (c .are .counted ∙ ap (different ℕ-dis
     all =
         sym (append-nil (c .past))
         ∙ ap (λ (ls : List Line). c .past ++ numbersOf (rowLines ls)) (sym (drop-of-length-le (linesIn lines) whole)) ∙ c .rest
+
+-- The first t, without a 0 and with some.
+module _ {lines : List ℕ} {count zeroes : ℕ} (v : ValuesAre lines count zeroes) where
+  pub without-zeros : zeroes ≡ 0 → (count ≡ firstT (linesIn lines)) × (count ≤ 12288)
+  without-zeros e = (omega (arith, first-by-numbers (linesIn lines), v .different-are, v .zeros-are, e), omega (arith, v .few))
+
+  pub with-zeros : (zeroes ≡ 0 → ⊥) → (count + zeroes - 1 ≡ firstT (linesIn lines)) × (count + zeroes - 1 ≤ 12288)
+  with-zeros h = (omega (arith, first-by-numbers (linesIn lines), v .different-are, v .zeros-are, h), omega (arith, v .few, v .few-zeros))

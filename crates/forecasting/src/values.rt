@@ -1,16 +1,23 @@
-// How many different values the table has. They are looked up by a hash: where the chain of each bucket begins, and where each place leads. A place in a chain counts from 1; 0 ends it.
+// How many different values the table has; each 0, which is not given, is one of its own. They are looked up by a hash: where the chain of each bucket begins, and where each place leads. A place in a chain counts from 1; 0 ends it.
 ghost use mathlib.Core.Path.{_≡_};
 ghost use mathlib.Core.List.{[], _∷_};
 ghost use Prim.Native.Nat.{_+_, _<_, _≤_};
 ghost use lib.ListN.{length};
+ghost use Rattle.carrying.specs.Carrying.{zeros as zerosIn};
 ghost use Rattle.rules.specs.Table.{SheetHeld, linesIn};
 ghost use Rattle.rules.specs.inner.Bytes.{Clear};
 ghost use Rattle.chains.specs.inner.Chains.{FoundAt};
 ghost use Rattle.growth.specs.Forecast.{firstT};
-ghost use Rattle.forecasting.specs.inner.Values.{bucketOf, IsAt, Stored, Added};
+ghost use Rattle.forecasting.specs.inner.Values.{bucketOf, IsAt, Stored, Added, ValuesAre};
 use crate::wide;
 use sheet::LETTER_K;
 use sheet::LETTER_R;
+
+// How many different numbers the rows have, 0 among them, and how many zeros.
+struct Values {
+    different: usize,
+    zeros: usize,
+}
 
 // The bucket of a value.
 fn bucket(by: usize, x: u32) -> usize
@@ -87,6 +94,21 @@ fn add_all(
     r
 }
 
+// How many values of a row are 0.
+fn zeros_of(row: &[u32]) -> usize
+    ensures { λ r. ⌜ (r ≡ zerosIn (now (row .entry))) × (r ≤ length (now (row .entry))) ⌝ }
+{
+    let mut r: usize = 0;
+    let mut k: usize = 0;
+    while k < row.len() {
+        if row[k] == 0 {
+            r += 1;
+        }
+        k += 1;
+    }
+    r
+}
+
 // Adds the values of all rows. The width of a row is that of its kind.
 fn add_rows(
     lines: &[u32],
@@ -94,12 +116,13 @@ fn add_rows(
     heads: &mut [u16],
     next: &mut [u16],
     by: usize,
-) -> usize
+) -> Values
     requires { ⌜ SheetHeld (now lines) × Stored by (now values) (now heads) (now next) 0 ⌝ }
-    ensures { λ r. ⌜ (r ≡ firstT (linesIn (now (lines .entry)))) × (r ≤ 6144) ⌝ }
+    ensures { λ r. ⌜ ValuesAre (now (lines .entry)) (r .different) (r .zeros) ⌝ }
 {
     let mut widths = [0u32; 65];
     let mut count: usize = 0;
+    let mut zeros: usize = 0;
     let mut n: usize = 0;
     while 8 * n < lines.len() {
         let letter = lines[8 * n];
@@ -110,10 +133,14 @@ fn add_rows(
             let at = 8 * n + 2;
             let end = at + wide::of_u32(widths[kind]);
             count = add_all(values, heads, next, by, count, &lines[at..end]);
+            zeros += zeros_of(&lines[at..end]);
         }
         n += 1;
     }
-    count
+    Values {
+        different: count,
+        zeros,
+    }
 }
 
 // Room for the different values of 1,024 rows of six, and for where each leads.
@@ -136,14 +163,19 @@ fn no_heads() -> [u16; 4096]
     [0u16; 4096]
 }
 
-// The first t.
+// The first t. The first 0 is among the different numbers; each further one is a value more.
 pub(crate) fn count_values(lines: &[u32]) -> usize
     requires { ⌜ SheetHeld (now lines) ⌝ }
-    ensures { λ r. ⌜ (r ≡ firstT (linesIn (now (lines .entry)))) × (r ≤ 6144) ⌝ }
+    ensures { λ r. ⌜ (r ≡ firstT (linesIn (now (lines .entry)))) × (r ≤ 12288) ⌝ }
 {
     let mut values = no_values();
     let mut heads = no_heads();
     let mut next = no_next();
     let by = chains::multiplier(lines);
-    add_rows(lines, &mut values, &mut heads, &mut next, by)
+    let found = add_rows(lines, &mut values, &mut heads, &mut next, by);
+    let zeros = found.zeros;
+    if zeros == 0 {
+        return found.different;
+    }
+    found.different + zeros - 1
 }

@@ -100,7 +100,7 @@ passes? s e = go (sheetIn (s .text))
 -- The evidence for each entry's result, in the order of the table.
 abbrev pub evidence : List Evidence
 evidence =
-    ends ∷ ends ∷ ends ∷ ends ∷ ends ∷ ends ∷ ends ∷ ends ∷ ends ∷ ends ∷ ends ∷ ends ∷ ends ∷ ends
+    ends ∷ ends ∷ ends ∷ ends ∷ ends ∷ ends ∷ ends ∷ ends ∷ ends ∷ ends ∷ ends ∷ ends ∷ ends ∷ ends ∷ ends
     ∷ turns 1 [] (record { rule = 1; head = 1; from = 2; to = 2; fresh = 1 }) []
     ∷ []
 

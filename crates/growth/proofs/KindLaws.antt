@@ -7,16 +7,15 @@ use Prim.Native.Nat.{ℕ, _<_}
 use native.Mathlib.Omega.{arith}
 use borrow.Author.Tests.{eqb-true, ltb-true}
 use lib.Dec.{eqb, ltb}
-use lib.ListN.{length, getD, length-map}
+use lib.ListN.{length, getD}
 use Rattle.sheet.specs.Line.{K, B, H, R, Line}
 use Rattle.sheet.specs.Sheet.{widthOf, kindRight, Continues, IsSheet}
 use Rattle.sheet.proofs.Sheets.{refusal-passes}
 use Rattle.chase.specs.Lists.{In}
 use Rattle.chase.specs.Rules.{Head, Rule, headsOf, rulesOf, rowLines}
-use Rattle.chase.specs.Value.{table}
 use Rattle.chase.specs.Making.{Record, freshOf}
-use Rattle.chase.specs.Run.{rowRecord, rowsOf, Reachable, row, madeFrom}
-use Rattle.chase.proofs.ListLaws.{map-in}
+use Rattle.chase.specs.Run.{rowsOf, Reachable, row, madeFrom}
+use Rattle.chase.proofs.RowLaws.{row-length, row-line}
 use Rattle.chase.proofs.MakingLaws.{makes-length}
 use Rattle.chase.proofs.StepLaws.{nth-in}
 use Rattle.growth.specs.Forecast.{kindLines, widthIn}
@@ -130,14 +129,14 @@ rulesOf-in (m ∷ ls) r h i j = go (eqb (m .letter) B) i (λ k. rulesOf-in ls r 
 -- A reachable record of a sheet has a declared kind and its width.
 pub reachable-declared : (ls : List Line) → IsSheet ls → {x : Record} → Reachable (rulesOf ls) (rowsOf ls) x → Declared ls (x .kind) (length (x .fields))
 reachable-declared ls c (row {x = x} i) =
-    let (l, j, is) = map-in rowRecord (rowLines ls) x i in
-    let (there, letter) = rowLines-in ls l j in
-    let k = sheet-declared ls c l there (rw letter) in
+    let (l, j, is) = row-line ls x i in
+    let (there, letter) = rowLines-in ls (l .item) j in
+    let k = sheet-declared ls c (l .item) there (rw letter) in
     record {
       line = k .line;
       there = k .there;
       kind-is = ap (λ (y : Record). y .kind) is ∙ k .kind-is;
-      width-is = ap (λ (y : Record). length (y .fields)) is ∙ length-map (l .numbers) table ∙ k .width-is;
+      width-is = ap (λ (y : Record). length (y .fields)) is ∙ row-length l ∙ k .width-is;
     }
 reachable-declared ls c (madeFrom {x = x} n r h e w f i) =
     let s = rulesOf-in ls r h (nth-in (rulesOf ls) n r e) i in

@@ -21,7 +21,7 @@ fieldsOf (x ∷ xs) = x .fields ++ fieldsOf xs
 unfoldable pub valuesIn : List Record → List Value
 valuesIn records = addAll Value-discrete (fieldsOf records) []
 
--- The first t: how many different values the table has.
+-- The first t: how many different values the table has; each 0, which is not given, is one of its own.
 unfoldable pub firstT : List Line → ℕ
 firstT lines = length (valuesIn (rowsOf lines))
 

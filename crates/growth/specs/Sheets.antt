@@ -86,10 +86,16 @@ sheets =
       result = gives (figures (exactly 1) (exactly 2) (exactly 0));
     }
     ∷
-    -- Rows P 0, 5, 5 and Q 5 0. A value counts once, whatever rows and kinds it stands in; 0 is a value.
+    -- Rows P 0, 5, 5 and Q 5 0. A value counts once, whatever rows and kinds it stands in; each 0 is a value of its own.
     record {
       text = asText ("K        1        1" ∷ "K        2        2" ∷ "R        1        0" ∷ "R        1        5" ∷ "R        1        5" ∷ "R        2        5        0" ∷ []);
-      result = gives (figures (exactly 2) (exactly 6) (exactly 0));
+      result = gives (figures (exactly 3) (exactly 12) (exactly 0));
+    }
+    ∷
+    -- P(1,1)→P(2,1), rows 0 0, 0 0 and 7 7: each of the four zeros is a value, so t is 5, then 5 + 5.
+    record {
+      text = asText ("K        1        2" ∷ "B        1        1        1" ∷ "H        1        2        1" ∷ "R        1        0        0" ∷ "R        1        0        0" ∷ "R        1        7        7" ∷ []);
+      result = gives (figures (exactly 10) (exactly 100) (exactly 10));
     }
     ∷
     -- 40 values in rows of six: 40 to the power of 6 records.

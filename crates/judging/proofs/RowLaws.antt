@@ -1,26 +1,25 @@
 -- The search for the shapes of the rows. Assumes nothing.
 use mathlib.Core.Path.{_≡_, refl, sym, subst, subst₂, ap, _∙_}
-use mathlib.Core.List.{List, [], _∷_, map}
+use mathlib.Core.List.{List, [], _∷_}
 use mathlib.Core.Option.{some}
-use Prim.Native.Nat.{ℕ, suc, _+_, _*_, _<_, _≤_}
-use native.Mathlib.Decide.{ℕ-discrete}
+use Prim.Native.Nat.{ℕ, suc, _+_, _*_, _<_}
 use native.Mathlib.Numerals.{add-one}
 use native.Mathlib.Omega.{arith}
 use borrow.Author.Count.{below-more}
 use lib.ListN.{length, getD, set, drop, length-drop}
 use lib.Seq.{length-take-le}
-use Rattle.patterns.specs.Pattern.{pattern}
+use Rattle.patterns.specs.Lists.{Numbered}
+use Rattle.patterns.specs.Pattern.{numbersPattern}
 use Rattle.sheet.specs.Line.{Line}
 use Rattle.chase.specs.Rules.{Rule, nth}
-use Rattle.chase.specs.Value.{table, Value-discrete}
 use Rattle.chase.specs.Making.{Record}
 use Rattle.chase.specs.Run.{rowRecord}
 use Rattle.chase.specs.Shape.{Shape, shapeOf}
 use Rattle.chase.specs.Counting.{MoreThan}
 use Rattle.chase.specs.Simplification.{Derived}
-use Rattle.chase.proofs.ShapeLaws.{pattern-map}
+use Rattle.chase.proofs.FillLaws.{row-shape}
 use Rattle.judging.specs.inner.Codes.{shapeAt, ShapeFits, CodeIs}
-use Rattle.rules.specs.Table.{rowsIn, KindFits}
+use Rattle.rules.specs.Table.{rowsIn}
 use Rattle.judging.specs.inner.Found.{Has, viaRow}
 use Rattle.rules.specs.inner.Bytes.{Clear}
 use Rattle.rules.specs.inner.Rows.{rowNumbers, RowAt}
@@ -28,17 +27,6 @@ use Rattle.judging.specs.inner.Rows.{RowsFound}
 use Rattle.judging.proofs.CodeLaws.{pattern-fits}
 use Rattle.rules.proofs.PartLaws.{zeros}
 use Rattle.judging.proofs.FoundLaws.{new-shape, has-more, has-last, room-of, marked-has, kept-push, more-than, derived-row}
-
--- The shape of a row.
-pub numbers-shape : (numbers : List ℕ) → pattern Value-discrete (map table numbers) ≡ pattern ℕ-discrete numbers
-numbers-shape numbers = pattern-map ℕ-discrete Value-discrete table numbers (λ x y i j e. cc)
-
-pub row-shape : (line : Line) (code : ℕ) → CodeIs (line .kind) (pattern ℕ-discrete (line .numbers)) code → shapeAt code ≡ shapeOf (rowRecord line)
-row-shape line code c = c .back ∙ ap (λ (p : List ℕ). record { kind = line .kind; pattern = p }) (sym (numbers-shape (line .numbers)))
-
-pub row-fits : (line : Line) (code : ℕ) → CodeIs (line .kind) (pattern ℕ-discrete (line .numbers)) code → KindFits (line .kind)
-    → 1 ≤ length (line .numbers) → length (line .numbers) ≤ 6 → ShapeFits (shapeAt code)
-row-fits line code c kind one six = subst ShapeFits (sym (c .back)) (pattern-fits ℕ-discrete (line .kind) (line .numbers) kind one six)
 
 -- The rows' shapes.
 pub rows-begun : (rules : List Rule) (rows : List Record) (codes index : List ℕ) (ways : List (List ℕ)) → length codes ≡ 512 → Clear index 17792
@@ -95,12 +83,16 @@ module _ {rules : List Rule} {rows : List Record} {codes index : List ℕ} {ways
 -- A row is tried.
 module _ {rules : List Rule} {numbers codes index : List ℕ} {ways : List (List ℕ)} {n width row count : ℕ} (row-is : RowAt numbers n width (row + 1))
     (found : RowsFound rules (rowsIn numbers) codes index ways count row) (code : ℕ)
-    (is : CodeIs (getD numbers (8 * n + 1) 0) (pattern ℕ-discrete (rowNumbers numbers n width)) code) where
-  line-code : CodeIs (row-is .line .kind) (pattern ℕ-discrete (row-is .line .numbers)) code
-  line-code = subst₂ (λ (k : ℕ) (ns : List ℕ). CodeIs k (pattern ℕ-discrete ns) code) (row-is .kind) (row-is .numbers-are) is
+    (is : CodeIs (getD numbers (8 * n + 1) 0) (numbersPattern (rowNumbers numbers n width)) code) where
+  -- The row with its number.
+  abbrev line : Numbered Line
+  line = record { number = row + 1; item = row-is .line }
 
-  line-shape : shapeAt code ≡ shapeOf (rowRecord (row-is .line))
-  line-shape = row-shape (row-is .line) code line-code
+  line-code : CodeIs (row-is .line .kind) (numbersPattern (row-is .line .numbers)) code
+  line-code = subst₂ (λ (k : ℕ) (ns : List ℕ). CodeIs k (numbersPattern ns) code) (row-is .kind) (row-is .numbers-are) is
+
+  line-shape : shapeAt code ≡ shapeOf (rowRecord line)
+  line-shape = line-code .back ∙ sym (row-shape line)
 
   line-width : length (row-is .line .numbers) ≡ width
   line-width =
@@ -113,17 +105,17 @@ module _ {rules : List Rule} {numbers codes index : List ℕ} {ways : List (List
       let z = line-width in
       let o = row-is .some-width in
       let f = row-is .few-width in
-      row-fits (row-is .line) code line-code (row-is .kind-fits) (omega arith) (omega arith)
+      subst ShapeFits (sym (line-code .back)) (pattern-fits (row-is .line .kind) (row-is .line .numbers) (row-is .kind-fits) (omega arith) (omega arith))
 
   pub tried-seen : (getD index code 0 ≡ 0 → ⊥) → RowsFound rules (rowsIn numbers) codes index ways count (row + 1)
-  tried-seen m = row-seen found (rowRecord (row-is .line)) (row-is .named) code line-shape m
+  tried-seen m = row-seen found (rowRecord line) (row-is .named) code line-shape m
 
   pub tried-push : (count ≡ 512 → ⊥) → getD index code 0 ≡ 0
       → RowsFound rules (rowsIn numbers) (set codes count code) (set index code (count + 1)) (set ways count (0 ∷ (row + 1) ∷ 0 ∷ [])) (count + 1) (row + 1)
-  tried-push ne z = row-push found (rowRecord (row-is .line)) (row-is .named) code line-shape ne (is .small) line-fits z
+  tried-push ne z = row-push found (rowRecord line) (row-is .named) code line-shape ne (is .small) line-fits z
 
   pub tried-more : count ≡ 512 → getD index code 0 ≡ 0 → MoreThan (Derived rules (rowsIn numbers)) 512
-  tried-more full z = row-more found (rowRecord (row-is .line)) (row-is .named) code line-shape full (is .small) z
+  tried-more full z = row-more found (rowRecord line) (row-is .named) code line-shape full (is .small) z
 
 -- All rows are tried.
 pub tried-all : {rules : List Rule} {rows : List Record} {codes index : List ℕ} {ways : List (List ℕ)} {n row : ℕ}

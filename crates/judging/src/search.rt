@@ -1,11 +1,10 @@
 // The search for the shapes that the rules reach from the rows.
 ghost use mathlib.Core.Bool.{false};
 ghost use mathlib.Core.Path.{_≡_};
-ghost use native.Mathlib.Decide.{ℕ-discrete};
 ghost use mathlib.Core.List.{[], _∷_};
 ghost use Prim.Native.Nat.{_+_, _*_, _≤_, _<_};
 ghost use lib.ListN.{length, getD, set};
-ghost use Rattle.patterns.specs.Pattern.{pattern};
+ghost use Rattle.patterns.specs.Pattern.{numbersPattern};
 ghost use Rattle.rules.specs.Table.{SheetHeld, rulesIn, rowsIn, tableRules, KindFits, TableFits};
 ghost use Rattle.judging.specs.inner.Codes.{CodeIs};
 ghost use Rattle.judging.specs.inner.Firing.{ByKind};
@@ -71,7 +70,7 @@ fn push(
 // The shape of the row at line `n`, whose kind has this width.
 fn row_code(lines: &[u32], n: usize, width: usize) -> usize
     requires { ⌜ KindFits (getD (now lines) (8 * n + 1) 0) × (1 ≤ width) × (width ≤ 6) × (8 * n + 8 ≤ length (now lines)) ⌝ }
-    ensures { λ r. ⌜ CodeIs (getD (now (lines .entry)) (8 * n + 1) 0) (pattern ℕ-discrete (rowNumbers (now (lines .entry)) n width)) r ⌝ }
+    ensures { λ r. ⌜ CodeIs (getD (now (lines .entry)) (8 * n + 1) 0) (numbersPattern (rowNumbers (now (lines .entry)) n width)) r ⌝ }
 {
     let at = 8 * n + 2;
     let end = at + width;

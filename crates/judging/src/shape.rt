@@ -1,9 +1,8 @@
 // Shapes as numbers: 278 × (kind − 1) + (number of the pattern − 1). Whether a rule fires on a shape, and the shape that it makes.
 ghost use mathlib.Core.Path.{_≡_};
-ghost use native.Mathlib.Decide.{ℕ-discrete};
 ghost use Prim.Native.Nat.{_+_, _-_, _*_, _≤_, _<_};
 ghost use lib.ListN.{length, getD};
-ghost use Rattle.patterns.specs.Pattern.{pattern};
+ghost use Rattle.patterns.specs.Pattern.{numbersPattern};
 ghost use Rattle.rules.specs.Table.{KindFits, TableFits, rowBytes, ruleIn};
 ghost use Rattle.judging.specs.inner.Codes.{CodeIs, FiresOn, MadeOf, DigitsFit, madeNumber};
 ghost use Rattle.judging.specs.inner.Firing.{ByKind, Place, NextFire};
@@ -13,7 +12,7 @@ use sheet::PatternAnswer;
 // The number of the shape with a kind and the pattern of the numbers.
 pub(crate) fn shape_code(kind: u32, numbers: &[u32]) -> usize
     requires { ⌜ KindFits kind × (1 ≤ length (now numbers)) × (length (now numbers) ≤ 6) ⌝ }
-    ensures { λ r. ⌜ CodeIs kind (pattern ℕ-discrete (now (numbers .entry))) r ⌝ }
+    ensures { λ r. ⌜ CodeIs kind (numbersPattern (now (numbers .entry))) r ⌝ }
 {
     match sheet::pattern(numbers) {
         PatternAnswer::Number(n) => 278 * (kind as usize - 1) + n - 1,

@@ -15,18 +15,18 @@ use Rattle.sheet.specs.Line.{K, B, H, R, Line, inRange}
 use Rattle.sheet.specs.Sheet.{IsSheet}
 use Rattle.chase.specs.Lists.{In}
 use Rattle.chase.specs.Rules.{Head, Rule, headsOf, rulesOf, rowLines}
-use Rattle.chase.specs.Value.{table}
 use Rattle.chase.specs.Making.{Record}
-use Rattle.chase.specs.Run.{Reachable, row, madeFrom, rowRecord, rowsOf}
-use Rattle.chase.proofs.ListLaws.{in-map, map-in, all-of}
+use Rattle.chase.specs.Run.{Reachable, row, madeFrom, rowsOf}
+use Rattle.chase.proofs.ListLaws.{in-map, all-of}
+use Rattle.chase.proofs.RowLaws.{row-length, row-line as line-of-row}
 use Rattle.chase.proofs.StepLaws.{nth-in}
 use Rattle.rules.proofs.SheetLaws.{rules-few}
-use Rattle.carrying.specs.Carrying.{Row, Pair-discrete, FiresOn, firesOn?, pairOf, tableRows}
-use Rattle.carrying.specs.Contract.{run, Ends, top}
+use Rattle.carrying.specs.Carrying.{Row, Pair-discrete, FiresOn, firesOn?, pairOf}
+use Rattle.carrying.specs.Contract.{run, Ends}
 use Rattle.carrying.specs.Meaning.{meant}
 use Rattle.carrying.specs.inner.Keys.{pairsOn, firingsOn}
-use Rattle.carrying.proofs.FiringCount.{firings-by-rule}
-use Rattle.carrying.proofs.Theorems.{numbering, meaning, one-to-one-renaming}
+use Rattle.carrying.proofs.SameRun.{firings-by-rule}
+use Rattle.carrying.proofs.Theorems.{meaning, one-to-one-renaming}
 use Rattle.report.proofs.Ranges.{in-range-all}
 
 -- ---- kinds and widths
@@ -88,14 +88,14 @@ row-line (l ∷ ls) w i = go (eqb (l .letter) R) refl (row-line ls w) i
 
 reachable-alike : (lines : List Line) {x : Record} → Reachable (rulesOf lines) (rowsOf lines) x → Alike lines (x .kind) (length (x .fields))
 reachable-alike lines {x} (row i) =
-    let (l, j, e) = map-in rowRecord (rowLines lines) x i in
-    let a = row-line lines l j in
+    let (l, j, e) = line-of-row lines x i in
+    let a = row-line lines (l .item) j in
     record {
       line = a .line;
       there = a .there;
       other = a .other;
       kind-is = a .kind-is ∙ sym (ap (λ (y : Record). y .kind) e);
-      size-is = a .size-is ∙ sym (length-map (l .numbers) table) ∙ sym (ap (λ (y : Record). length (y .fields)) e);
+      size-is = a .size-is ∙ sym (row-length l) ∙ sym (ap (λ (y : Record). length (y .fields)) e);
     }
 reachable-alike lines (madeFrom n r h named from fires i) =
     let a = rule-line lines r (nth-in (rulesOf lines) n r named) h i in
@@ -133,7 +133,7 @@ pub firings-few : (lines : List Line) → IsSheet lines → (k : ℕ) → Ends l
 firings-few lines sheet k ends few =
     omega (
       arith,
-      firings-by-rule (rulesOf lines) (tableRows lines) (suc (top lines)) table (numbering lines) k ends,
+      firings-by-rule lines k ends,
       firings-below 1 (rulesOf lines) (run lines k .rows) few,
       rules-few lines sheet,
     )

@@ -7,7 +7,7 @@ use native.Mathlib.Numerals.{add-one}
 use native.Mathlib.Omega.{arith}
 use lib.ListN.{length, getD, take, drop}
 use lib.Seq.{drop-cons}
-use Rattle.patterns.specs.Lists.{In}
+use Rattle.patterns.specs.Lists.{In, All}
 use Rattle.patterns.specs.Outcome.{padded}
 
 -- Membership in joined and mapped lists.
@@ -37,11 +37,22 @@ map-in f (x ∷ l) y (inr i) =
     let s = map-in f l y i in
     (s .0, inr (s .1), s .2)
 
+-- What holds of each element.
+pub all-of : {A : Type 0} (P : A → Type 0) (l : List A) → ((x : A) → In x l → P x) → All P l
+all-of P [] f = tt
+all-of P (x ∷ l) f = (f x (inl refl), all-of P l (λ y i. f y (inr i)))
+
 -- What stands at a place of a list is in it.
 pub in-getD : {A : Type 0} (l : List A) (k : ℕ) (e : A) → k < length l → In (getD l k e) l
 in-getD [] k e h = absurd (omega arith)
 in-getD (x ∷ l) zero e h = inl refl
 in-getD (x ∷ l) (suc k) e h = inr (in-getD l k e (omega arith))
+
+-- What stands at a place of a mapped list.
+pub map-at : {A B : Type 0} (f : A → B) (l : List A) (k : ℕ) (e : A) (o : B) → k < length l → getD (map f l) k o ≡ f (getD l k e)
+map-at f [] k e o h = let z : ⊥ = omega arith in absurd z
+map-at f (x ∷ l) zero e o h = refl
+map-at f (x ∷ l) (suc k) e o h = map-at f l k e o (omega arith)
 
 pub length-padded : (w : ℕ) (ns : List ℕ) → length (padded w ns) ≡ w
 length-padded zero ns = refl

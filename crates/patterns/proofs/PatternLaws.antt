@@ -9,7 +9,7 @@ use lib.ListN.{length, getD, drop, length-map}
 use lib.Seq.{drop-cons}
 use Rattle.patterns.specs.Lists.{In, All}
 use Rattle.patterns.specs.Pattern.{pick, index, add, addAll, pattern}
-use Rattle.patterns.proofs.ListLaws.{in-getD}
+use Rattle.patterns.proofs.ListLaws.{in-getD, map-at}
 
 pub pick-iff : {P Q A : Type 0} (a b : A) → (P → Q) → (Q → P) → (p : Dec P) (q : Dec Q) → pick p a b ≡ pick q a b
 pick-iff a b f g (yes p) (yes q) = refl
@@ -122,6 +122,15 @@ module _ {A : Type 0} (d : Discrete A) where
       go : (p : Dec (getD l k e ≡ z)) → index d (getD l k e) l ≤ k → pick p zero (suc (index d (getD l k e) l)) ≤ suc k
       go (yes p) ih = omega arith
       go (no h) ih = omega arith
+
+  -- What stands at k, and nowhere before, has the place k.
+  pub index-is : (x : A) (l : List A) (k : ℕ) (e : A) → k < length l → getD l k e ≡ x → ((j : ℕ) → j < k → getD l j e ≡ x → ⊥)
+      → index d x l ≡ k
+  index-is x l k e h q n =
+      let m : In x l = subst (λ (y : A). In y l) q (in-getD l k e h) in
+      let f : index d x l ≤ k = subst (λ (y : A). index d y l ≤ k) q (index-first l k e h) in
+      let g : index d x l < k → ⊥ = λ b. n (index d x l) b (getD-index x l e m) in
+      omega arith
 
   pub index-here : (x : A) (l : List A) (k : ℕ) (e : A) → k < length l → getD l k e ≡ x → index d x (drop k l) ≡ 0
   index-here x l k e h q = rw (drop-cons l k e h) (pick-yes _ _ (d x (getD l k e)) (sym q))
@@ -237,12 +246,15 @@ module _ {A : Type 0} (d : Discrete A) where
   digit-le xs x m = omega (arith, index-lt x (addAll d xs []) (addAll-has x xs [] m), length-addAll xs [])
 
   pub getD-pattern : (xs : List A) (k : ℕ) (e : A) → k < length xs → getD (pattern d xs) k 0 ≡ digit xs (getD xs k e)
-  getD-pattern xs k e h = go xs k h
-    where
-      go : (ys : List A) (k : ℕ) → k < length ys → getD (map (digit xs) ys) k 0 ≡ digit xs (getD ys k e)
-      go [] k h = let z : ⊥ = omega arith in absurd z
-      go (y ∷ ys) zero h = refl
-      go (y ∷ ys) (suc k) h = go ys k (omega arith)
+  getD-pattern xs k e h = map-at (digit xs) xs k e 0 h
+
+  -- The digits of two places are equal exactly when the fields are.
+  pub digits-same : (xs : List A) (i j : ℕ) (e : A) → i < length xs → j < length xs
+      → (getD (pattern d xs) i 0 ≡ getD (pattern d xs) j 0) ↔ (getD xs i e ≡ getD xs j e)
+  digits-same xs i j e l m =
+      let p = getD-pattern xs i e l in
+      let q = getD-pattern xs j e m in
+      (λ s. digit-inj xs (getD xs i e) (getD xs j e) (in-getD xs i e l) (sym p ∙ s ∙ q), λ f. p ∙ ap (digit xs) f ∙ sym q)
 
 -- A map that keeps different elements different keeps places.
 pub index-map : {A B : Type 0} (dA : Discrete A) (dB : Discrete B) (f : A → B) → ((x y : A) → f x ≡ f y → x ≡ y) → (x : A) (l : List A)
@@ -309,12 +321,8 @@ module _ {A B : Type 0} (dA : Discrete A) (dB : Discrete B) (xs : List A) (ys : 
   pub pattern-places : pattern dA xs ≡ pattern dB ys → (i j : ℕ) → i < length xs → j < length xs
       → (getD xs i a ≡ getD xs j a) ↔ (getD ys i b ≡ getD ys j b)
   pattern-places h i j l m =
-      let p = getD-pattern dA xs i a l in
-      let q = getD-pattern dA xs j a m in
-      let r = getD-pattern dB ys i b (omega arith) in
-      let s = getD-pattern dB ys j b (omega arith) in
+      let p = digits-same dA xs i j a l m in
+      let q = digits-same dB ys i j b (omega arith) (omega arith) in
       let hi = ap (λ t. getD t i 0) h in
-      let hj = ap (λ t. getD t j 0) h in (
-        λ u. digit-inj dB ys (getD ys i b) (getD ys j b) (in-getD ys i b (omega arith)) (sym r ∙ sym hi ∙ p ∙ ap (digit dA xs) u ∙ sym q ∙ hj ∙ s),
-        λ v. digit-inj dA xs (getD xs i a) (getD xs j a) (in-getD xs i a l) (sym p ∙ hi ∙ r ∙ ap (digit dB ys) v ∙ sym s ∙ sym hj ∙ q),
-      )
+      let hj = ap (λ t. getD t j 0) h in
+      (λ u. q .0 (sym hi ∙ p .1 u ∙ hj), λ v. p .0 (hi ∙ q .1 v ∙ sym hj))

@@ -8,11 +8,13 @@ use native.Mathlib.Omega.{arith}
 use borrow.Author.Tests.{eq-eqb, ne-eqb, lt-ltb, le-ltb}
 use lib.Dec.{T}
 use lib.ListN.{length, getD}
+use Rattle.patterns.specs.Lists.{In}
 use Rattle.patterns.specs.Outcome.{good, refused, padded}
-use Rattle.patterns.specs.Pattern.{index, pattern, patterns, patternsTo, goingOn, led, lists-discrete, numberOf, patternOf, digitsOf, patternTable, digitsIn}
+use Rattle.patterns.specs.Pattern.{index, pattern, patterns, patternsTo, goingOn, led, lists-discrete, numberOf, none-at, Label-discrete, labels, numbersPattern, patternOf, digitsOf, patternTable, digitsIn}
 use Rattle.patterns.specs.PatternTable.{appears, earlier, Pattern, entriesOf, tableTest}
 use Rattle.patterns.proofs.ListLaws.{in-getD}
-use Rattle.patterns.proofs.PatternLaws.{same-places, pattern-places, index-lt, getD-index}
+use Rattle.patterns.proofs.PatternLaws.{same-places, pattern-places, digits-same, index-lt, getD-index}
+use Rattle.patterns.proofs.LabelLaws.{length-labels, same-label, without-zero}
 use Rattle.patterns.proofs.PatternOrder.{up-next, up-index}
 use Rattle.patterns.proofs.PatternList.{patterns-in, patterns-up}
 use Rattle.patterns.proofs.PatternRank.{count, placed, has-pattern, pattern-appears, appears-own}
@@ -109,7 +111,7 @@ module _ (table : List ℕ) (passes : T (tableTest table)) where
   table-one = table-is table passes
 
 -- RECORDS. A record of one to six numbers is numbered, any other is refused.
-pub numbered : (xs : List ℕ) → 1 ≤ length xs → length xs ≤ 6 → patternOf xs ≡ good (numberOf (pattern ℕ-discrete xs))
+pub numbered : (xs : List ℕ) → 1 ≤ length xs → length xs ≤ 6 → patternOf xs ≡ good (numberOf (numbersPattern xs))
 numbered xs lo hi = rw (ne-eqb (length xs) 0 (λ e. omega arith), le-ltb 6 (length xs) hi)
 
 pub not-numbered : (xs : List ℕ) → (length xs ≡ 0) ⊎ (6 < length xs) → patternOf xs ≡ refused 10 0
@@ -122,9 +124,22 @@ pub same-pattern-same-places : {A B : Type 0} (dA : Discrete A) (dB : Discrete B
     ↔ ((i j : ℕ) → i < length xs → j < length xs → (getD xs i a ≡ getD xs j a) ↔ (getD ys i b ≡ getD ys j b))
 same-pattern-same-places dA dB xs ys a b e = (pattern-places dA dB xs ys a b e, same-places dA dB xs ys a b e)
 
+-- Two places of a record of numbers have the same digit exactly when they are one, or their numbers are equal and not 0.
+pub same-digit : (xs : List ℕ) (i j : ℕ) → i < length xs → j < length xs
+    → (getD (numbersPattern xs) i 0 ≡ getD (numbersPattern xs) j 0) ↔ ((i ≡ j) ⊎ ((getD xs i 0 ≡ getD xs j 0) × (getD xs i 0 ≡ 0 → ⊥)))
+same-digit xs i j l m =
+    let n = length-labels xs in
+    let p = digits-same Label-discrete (labels xs) i j (none-at 0) (omega arith) (omega arith) in
+    let q = same-label xs i j l m in
+    (λ e. q .0 (p .0 e), λ s. p .1 (q .1 s))
+
+-- Numbers without 0 have the pattern that they have as numbers.
+pub no-zero : (xs : List ℕ) → (In 0 xs → ⊥) → numbersPattern xs ≡ pattern ℕ-discrete xs
+no-zero xs h = without-zero xs h
+
 -- EXAMPLES of document 01.
-pub pattern-7479 : pattern ℕ-discrete (7 ∷ 4 ∷ 7 ∷ 9 ∷ []) ≡ 1 ∷ 2 ∷ 1 ∷ 3 ∷ []
-unfolding ℕ-discrete
+pub pattern-7479 : numbersPattern (7 ∷ 4 ∷ 7 ∷ 9 ∷ []) ≡ 1 ∷ 2 ∷ 1 ∷ 3 ∷ []
+unfolding ℕ-discrete Label-discrete
 pattern-7479 = refl
 
 pub named-numbers : (numberOf (1 ∷ []) ≡ 1)
@@ -135,10 +150,26 @@ pub named-numbers : (numberOf (1 ∷ []) ≡ 1)
 unfolding numberOf patterns patternsTo goingOn led lists-discrete ℕ-discrete
 named-numbers = (refl, refl, refl, refl, refl)
 
--- The starred cases.
-pub zero-zero : patternOf (0 ∷ 0 ∷ []) ≡ good 2
-unfolding numberOf patterns patternsTo goingOn led lists-discrete ℕ-discrete
+-- The starred cases. Two zeros are two different fields,
+pub zero-zero : patternOf (0 ∷ 0 ∷ []) ≡ good 3
+unfolding numberOf patterns patternsTo goingOn led lists-discrete ℕ-discrete Label-discrete
 zero-zero = refl
 
+-- two equal labels are one,
+pub seven-seven : patternOf (7 ∷ 7 ∷ []) ≡ good 2
+unfolding numberOf patterns patternsTo goingOn led lists-discrete ℕ-discrete Label-discrete
+seven-seven = refl
+
+-- and zeros between equal labels leave these equal.
+pub zeros-between : numbersPattern (7 ∷ 0 ∷ 7 ∷ 0 ∷ []) ≡ 1 ∷ 2 ∷ 1 ∷ 3 ∷ []
+unfolding ℕ-discrete Label-discrete
+zeros-between = refl
+
+-- The number of that pattern.
+pub zeros-between-number : patternOf (7 ∷ 0 ∷ 7 ∷ 0 ∷ []) ≡ good 16
+unfolding numberOf patterns patternsTo goingOn led lists-discrete ℕ-discrete Label-discrete
+zeros-between-number = refl
+
+-- No number at all is refused.
 pub no-number : patternOf [] ≡ refused 10 0
 no-number = refl

@@ -6,6 +6,7 @@ use Prim.Native.Nat.{ℕ, zero, suc, _*_, max}
 use native.Mathlib.Decide.{ℕ-discrete}
 use lib.Dec.{eqb, leb, ltb}
 use lib.ListN.{length, getD, take, drop}
+use Rattle.patterns.specs.Lists.{Numbered, numbered}
 use Rattle.patterns.specs.Outcome.{Outcome, good, refused, padded}
 use Rattle.patterns.specs.declared.PatternAnswer.{PatternAnswer}
 use Rattle.patterns.specs.declared.PatternAnswer.the-variants.{Number, FieldCount}
@@ -34,6 +35,26 @@ module _ {A : Type 0} (d : Discrete A) where
   -- A record's pattern: each field's place, from 1, among the different fields by first appearance.
   abbrev pub pattern : List A → List ℕ
   pattern xs = map (λ x. suc (index x (addAll xs []))) xs
+
+-- What the number at a place of a record says (change request 4): a label; or, where it is 0, that none is given there.
+pub data Label : Type 0 where
+  given : ℕ → Label
+  none-at : ℕ → Label
+  deriving Discrete as Label-discrete′
+
+unfoldable pub Label-discrete : Discrete Label
+Label-discrete = Label-discrete′ ℕ-discrete
+
+abbrev pub labelAt : ℕ → ℕ → Label
+labelAt place zero = none-at place
+labelAt place (suc n) = given (suc n)
+
+abbrev pub labels : List ℕ → List Label
+labels xs = map (λ n. labelAt (n .number) (n .item)) (numbered xs)
+
+-- The pattern of numbers: that of their labels, so that a 0 is equal to itself alone.
+abbrev pub numbersPattern : List ℕ → List ℕ
+numbersPattern xs = pattern Label-discrete (labels xs)
 
 -- The digits d, d + 1, and so on, n of them, each in front of every list that `rest` gives for it.
 unfoldable pub led : (ℕ → List (List ℕ)) → ℕ → ℕ → List (List ℕ)
@@ -73,7 +94,7 @@ numberOf digits = suc (index (lists-discrete ℕ-discrete) digits patterns)
 
 -- What `pattern` answers: 10 for no number or more than six, else the number of the pattern.
 abbrev pub patternOf : List ℕ → Outcome ℕ
-patternOf xs = cond (eqb (length xs) 0 || ltb 6 (length xs)) (refused 10 0) (good (numberOf (pattern ℕ-discrete xs)))
+patternOf xs = cond (eqb (length xs) 0 || ltb 6 (length xs)) (refused 10 0) (good (numberOf (numbersPattern xs)))
 
 -- Document 01's numbers for each answer.
 abbrev pub patternSays : PatternAnswer → Outcome ℕ

@@ -1,10 +1,9 @@
 // Patterns: the fields of a record numbered by first appearance.
 ghost use mathlib.Core.Path.{_≡_};
 ghost use Prim.Native.Nat.{_+_, _<_, _≤_};
-ghost use native.Mathlib.Decide.{ℕ-discrete};
 ghost use lib.Dec.{T};
 ghost use lib.ListN.{length, getD, take, drop};
-ghost use Rattle.patterns.specs.Pattern.{index, patternOf, patternSays, digitsOf, patternTable, digitsIn};
+ghost use Rattle.patterns.specs.Pattern.{index, none-at, Label-discrete, labels, patternOf, patternSays, digitsOf, patternTable, digitsIn};
 ghost use Rattle.patterns.specs.PatternTable.{tableTest};
 
 // What pattern answers: the number of the pattern, or that there is no number or more than six.
@@ -33,12 +32,15 @@ fn size(byte: u8) -> usize
     byte as usize
 }
 
-// The place of the first field that equals field `i`.
+// The place of the first field with the label of field `i`. A 0 is no label: it is equal to no other field.
 fn first_place(numbers: &[u32], i: usize) -> usize
     requires { ⌜ i < length (now numbers) ⌝ }
-    ensures { λ r. ⌜ r ≡ index ℕ-discrete (getD (now (numbers .entry)) i 0) (now (numbers .entry)) ⌝ }
+    ensures { λ r. ⌜ r ≡ index Label-discrete (getD (labels (now (numbers .entry))) i (none-at 0)) (labels (now (numbers .entry))) ⌝ }
 {
     let field = numbers[i];
+    if field == 0 {
+        return i;
+    }
     let mut place: usize = 0;
     while numbers[place] != field {
         place += 1;

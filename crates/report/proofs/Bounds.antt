@@ -7,7 +7,7 @@ use mathlib.Core.Option.{Option, none, some}
 use Prim.Native.Nat.{ℕ, zero, suc, _+_, _≤_}
 use native.Mathlib.Omega.{arith}
 use lib.Dec.{eqb}
-use lib.ListN.{length, take, drop, length-append, length-map}
+use lib.ListN.{length, take, drop, length-append}
 use Rattle.patterns.specs.Outcome.{good, refused}
 use Rattle.sheet.specs.Line.{B, R, Line, render, textOf, inRange}
 use Rattle.sheet.specs.Read.{readOf, textLimit}
@@ -19,11 +19,12 @@ use Rattle.chase.specs.Lists.{In}
 use Rattle.chase.specs.Rules.{Head, Rule, rulesOf, rowLines, nth}
 use Rattle.chase.specs.Value.{Value, values, generation, deepest}
 use Rattle.chase.specs.Making.{Record, made, freshOf, valueOf, carriedValues}
-use Rattle.chase.specs.Run.{rowsOf, rowRecord}
+use Rattle.chase.specs.Run.{rowsOf}
 use Rattle.chase.specs.Steps.{Step, madeBy, after, lastOf, lastTo}
 use Rattle.chase.specs.Judge.{Verdict, Right, SettlesAtOnce, Settles, Endless, Refuses, shapeLimit, trailLimit}
 use Rattle.chase.proofs.BoundLaws.{rows-of-tables}
 use Rattle.chase.proofs.CountLaws.{element-below, fired-below}
+use Rattle.chase.proofs.RowLaws.{rows-count}
 use Rattle.chase.proofs.MakingLaws.{makes-in, valueOf-in-fields, carriedValues-in-fields}
 use Rattle.chase.proofs.Share.{share-at-most-100}
 use Rattle.chase.proofs.StepLaws.{nth-in}
@@ -96,7 +97,7 @@ few-row-lines (l ∷ ls) = go (eqb (l .letter) R) refl (few-row-lines ls)
     go false e h = rw e (omega (arith, h))
 
 few-rows : (lines : List Line) → length (rowsOf lines) ≤ length lines
-few-rows lines = omega (arith, length-map (rowLines lines) rowRecord, few-row-lines lines)
+few-rows lines = omega (arith, rows-count lines, few-row-lines lines)
 
 row-below : {A : Type 0} (xs : List A) (n : ℕ) (x : A) → nth xs n ≡ some x → n ≤ length xs
 row-below xs zero x e = omega arith

@@ -11,6 +11,7 @@ use lib.ListN.{length, getD, length-map}
 use lib.Seq.{ext-getD}
 use borrow.Author.Tests.{eq-eqb, ne-eqb}
 use Rattle.patterns.specs.Pattern.{pick}
+pub use Rattle.patterns.proofs.ListLaws.{map-at}
 use Rattle.chase.specs.Rules.{Head, Rule, nth}
 use Rattle.chase.specs.Making.{valueOf, Agree, orElse, carriedValues}
 use Rattle.chase.specs.Shape.{Shape}
@@ -19,12 +20,6 @@ use Rattle.chase.proofs.ListLaws.{map-same}
 use Rattle.chase.proofs.CodedLaws.{bodyWidth, codeAt, codesMade, OneToOne, applies-coded}
 use Rattle.rules.specs.Table.{later, firstPlace}
 use Rattle.rules.proofs.Sources.{first-some, bodyPlace}
-
--- LISTS. What stands at a place of a mapped list.
-pub map-at : {A B : Type 0} (f : A → B) (l : List A) (i : ℕ) (a : A) (b : B) → i < length l → getD (map f l) i b ≡ f (getD l i a)
-map-at f [] i a b h = absurd (omega arith)
-map-at f (x ∷ l) zero a b h = refl
-map-at f (x ∷ l) (suc i) a b h = map-at f l i a b (omega arith)
 
 -- FIRST PLACES in a list of marks. The field at a mark's first place is the mark's value.
 first-value : {A : Type 0} (m : ℕ) (bs : List ℕ) (xs : List A) (x : A) → valueOf bs xs m ≡ some x → nth xs (firstPlace m bs) ≡ some x

@@ -9,14 +9,13 @@ use native.Mathlib.Decide.{ℕ-discrete}
 use native.Mathlib.Numerals.{add-one}
 use native.Mathlib.Omega.{arith}
 use lib.Dec.{eqb}
-use lib.ListN.{length, getD, set, take, length-set, length-map}
+use lib.ListN.{length, getD, set, take, length-set}
 use lib.Seq.{getD-set-same, getD-set-other, take-all}
 use borrow.Author.Tests.{eq-eqb, ne-eqb}
 use Rattle.sheet.specs.Line.{Line}
 use Rattle.sheet.specs.Sheet.{widthOf}
 use Rattle.chase.specs.Rules.{nth, rowLines}
-use Rattle.chase.specs.Run.{rowRecord}
-use Rattle.chase.proofs.StepLaws.{nth-map}
+use Rattle.chase.proofs.RowLaws.{row-named, rows-count}
 use Rattle.rules.specs.Table.{SheetHeld, linesIn, rowsIn}
 use Rattle.rules.specs.inner.Rows.{RowAt}
 use Rattle.rules.proofs.SheetLaws.{lineNo, linesBefore, before-next, LentLine, lent-line, held-lines, size-held, rows-few}
@@ -163,7 +162,7 @@ module _ (numbers widths : List ℕ) (row n : ℕ) (sheet : SheetHeld numbers) (
       record {
         line = line;
         size = held .whole;
-        named = rw add-one (nth-map rowRecord (rowLines ls) (suc row) line named);
+        named = rw add-one (row-named ls (suc row) line named);
         low = omega arith;
         kind = held .kind;
         kind-fits = held .fits .kind;
@@ -179,4 +178,4 @@ read-all numbers widths row n sheet at all =
     let l = at .low in
     at .rows-are
     ∙ ap (λ (ls : List Line). length (rowLines ls)) (take-all n (linesIn numbers) (omega arith))
-    ∙ sym (length-map (rowLines (linesIn numbers)) rowRecord)
+    ∙ sym (rows-count (linesIn numbers))

@@ -23,12 +23,14 @@ use Rattle.rules.specs.Table.{SheetHeld, linesIn}
 use Rattle.rules.specs.inner.Bytes.{Clear}
 use Rattle.rules.specs.inner.Rows.{rowNumbers}
 use Rattle.rules.proofs.SheetLaws.{noLine, lineNo, linesBefore, LentLine, lent-line, held-lines, size-held, continues-at}
-use Rattle.rules.proofs.PartLaws.{zeros}
+use Rattle.rules.proofs.PartLaws.{zeros as blank}
 use Rattle.rules.proofs.RowLaws.{Reading, reading-begun, row-width, row-at, read-row}
-use Rattle.carrying.specs.Carrying.{Row, Row-discrete, numbersIn, rowOf, tableRows}
+use Rattle.carrying.specs.Carrying.{Row, Row-discrete, numbersIn, filled, zeros, filledRows, rowOf, tableRows}
 use Rattle.running.specs.inner.Held.{packed, unpacked, rowsAt, recordsFit, Stored, Grown}
-use Rattle.running.specs.inner.Begun.{RowsIn}
+use Rattle.running.specs.inner.Begun.{RowsIn, Begun}
+use Rattle.running.specs.declared.visits.Counts.{Counts}
 use Rattle.running.proofs.RecordLaws.{section-cell, section-length}
+use Rattle.running.proofs.FillLaws.{length-filled, zeros-few, filledRow, length-filledRows, zeros-last, filledRows-last}
 use Rattle.running.proofs.FiringLaws.{addAll-last, grown-none, grown-again}
 
 -- ---- the lines so far
@@ -157,27 +159,47 @@ stored-none rows index by fits clear mixing =
       };
     }
 
--- The rows of the first n lines are put.
-pub record Putting (lines before index₀ widths rows index : List ℕ) (by count n : ℕ) : Type 0 where
+-- The rows of the first n lines are put, their zeros filled from a first number on.
+pub record Putting (lines before index₀ widths rows index : List ℕ) (by first count next n : ℕ) : Type 0 where
   pub row : ℕ
   pub reading : Reading lines widths row n
-  pub grown : Grown before index₀ by 0 rows index count (addAll Row-discrete (rowsUpTo lines n) [])
+  pub grown : Grown before index₀ by 0 rows index count (addAll Row-discrete (filledRows first (rowsUpTo lines n)) [])
   pub few : count ≤ 4096
+  pub given : next ≡ first + zeros (numbersIn (rowsUpTo lines n))
+  pub few-rows : row ≤ 1024
+  pub low : next ≤ first + 6 * row
 
-pub put-none : (lines rows index : List ℕ) (by : ℕ) → recordsFit rows → Clear index 24576 → by < 2147483648 → Putting lines rows index (zeros 65) rows index by 0 0
-put-none lines rows index by fits clear mixing =
-    record { row = 0; reading = reading-begun lines; grown = grown-none (stored-none rows index by fits clear mixing); few = omega arith }
+pub put-none : (lines rows index : List ℕ) (by first : ℕ) → recordsFit rows → Clear index 24576 → by < 2147483648
+    → Putting lines rows index (blank 65) rows index by first 0 first 0
+put-none lines rows index by first fits clear mixing =
+    record {
+      row = 0;
+      reading = reading-begun lines;
+      grown = grown-none (stored-none rows index by fits clear mixing);
+      few = omega arith;
+      given = omega arith;
+      few-rows = omega arith;
+      low = omega arith;
+    }
 
-module _ {lines before index₀ widths rows index : List ℕ} {by count n : ℕ} (sheet : SheetHeld lines) (p : Putting lines before index₀ widths rows index by count n)
-    (more : 8 * n < length lines) where
-  pub put-other : {widths' : List ℕ} → (getD lines (8 * n) 0 ≡ 82 → ⊥) → Reading lines widths' (p .row) (n + 1) → Putting lines before index₀ widths' rows index by count (n + 1)
+module _ {lines before index₀ widths rows index : List ℕ} {by first count next n : ℕ} (sheet : SheetHeld lines)
+    (p : Putting lines before index₀ widths rows index by first count next n) (more : 8 * n < length lines) where
+  pub put-other : {widths' : List ℕ} → (getD lines (8 * n) 0 ≡ 82 → ⊥) → Reading lines widths' (p .row) (n + 1)
+      → Putting lines before index₀ widths' rows index by first count next (n + 1)
   put-other e r =
+      let same = sym (rows-other sheet n more e) in
       record {
         row = p .row;
         reading = r;
-        grown = subst (λ (l : List Row). Grown before index₀ by 0 rows index count (addAll Row-discrete l [])) (sym (rows-other sheet n more e)) (p .grown);
+        grown = subst (λ (l : List Row). Grown before index₀ by 0 rows index count (addAll Row-discrete (filledRows first l) [])) same (p .grown);
         few = p .few;
+        given = subst (λ (l : List Row). next ≡ first + zeros (numbersIn l)) same (p .given);
+        few-rows = p .few-rows;
+        low = p .low;
       }
+
+  pub next-low : next ≤ first + 6144
+  next-low = omega (arith, p .low, p .few-rows)
 
   -- The row at an R line, whose kind has this width.
   module _ (e : getD lines (8 * n) 0 ≡ 82) (width : ℕ) (is-width : width ≡ getD widths (getD lines (8 * n + 1) 0) 0) where
@@ -195,45 +217,81 @@ module _ {lines before index₀ widths rows index : List ℕ} {by count n : ℕ}
         let h = held sheet n more in
         λ i. record { kind = h .kind i; numbers = (ap (λ (w : ℕ). rowNumbers lines n w) width-is ∙ h .fields) i }
 
-    pub row-narrow : length (rowNumbers lines n width) ≤ 6
-    row-narrow = omega (arith, ap (λ (w : Row). length (w .numbers)) row-is, held sheet n more .fits .few)
+    row-few : length (rowNumbers lines n width) ≤ 6
+    row-few = omega (arith, ap (λ (w : Row). length (w .numbers)) row-is, held sheet n more .fits .few)
 
-    pub put-row : {row rows' index' : List ℕ} {count' : ℕ} → row ≡ packed lineRow
+    pub row-narrow : (k : ℕ) → length (filled k (rowNumbers lines n width)) ≤ 6
+    row-narrow k = omega (arith, length-filled k (rowNumbers lines n width), row-few)
+
+    rows-with : rowsUpTo lines (n + 1) ≡ rowsUpTo lines n ++ (lineRow ∷ [])
+    rows-with = rows-row sheet n more e ∙ ap (λ (w : Row). rowsUpTo lines n ++ (w ∷ [])) (sym row-is)
+
+    filled-with : filledRows first (rowsUpTo lines (n + 1)) ≡ filledRows first (rowsUpTo lines n) ++ (filledRow next lineRow ∷ [])
+    filled-with =
+        ap (filledRows first) rows-with ∙ filledRows-last first (rowsUpTo lines n) lineRow
+        ∙ ap (λ (k : ℕ). filledRows first (rowsUpTo lines n) ++ (filledRow k lineRow ∷ [])) (sym (p .given))
+
+    pub put-row : {row rows' index' : List ℕ} {count' next' : ℕ} → row ≡ packed (filledRow next lineRow) → next' ≡ next + zeros (rowNumbers lines n width)
         → Grown rows index by count rows' index' count' (add Row-discrete (unpacked row) (rowsAt rows count))
-        → Putting lines before index₀ widths rows' index' by count' (n + 1)
-    put-row {row} {rows'} {index'} {count'} is g =
-        record { row = p .row + 1; reading = read; grown = all; few = few }
+        → Putting lines before index₀ widths rows' index' by first count' next' (n + 1)
+    put-row {row} {rows'} {index'} {count'} {next'} is next-is g =
+        record {
+          row = p .row + 1;
+          reading = read;
+          grown = all;
+          few = few;
+          given = omega (
+            arith,
+            next-is,
+            p .given,
+            ap (λ (l : List Row). zeros (numbersIn l)) rows-with,
+            zeros-last (rowsUpTo lines n) lineRow,
+          );
+          few-rows = row-at lines widths (p .row) n sheet (p .reading) more e .low;
+          low = omega (arith, next-is, p .low, zeros-few (rowNumbers lines n width), row-few);
+        }
       where
         read : Reading lines widths (p .row + 1) (n + 1)
         read = read-row lines widths (p .row) n sheet (p .reading) more e
 
-        all : Grown before index₀ by 0 rows' index' count' (addAll Row-discrete (rowsUpTo lines (n + 1)) [])
+        all : Grown before index₀ by 0 rows' index' count' (addAll Row-discrete (filledRows first (rowsUpTo lines (n + 1))) [])
         all =
-            grown-again (p .grown) (p .few) lineRow is row-narrow g (addAll Row-discrete (rowsUpTo lines (n + 1)) [])
-            (ap (λ (l : List Row). addAll Row-discrete l []) (rows-row sheet n more e ∙ ap (λ (w : Row). rowsUpTo lines n ++ (w ∷ [])) (sym row-is))
-            ∙ addAll-last Row-discrete (rowsUpTo lines n) lineRow [])
+            grown-again (p .grown) (p .few) (filledRow next lineRow) is (row-narrow next) g (addAll Row-discrete (filledRows first (rowsUpTo lines (n + 1))) [])
+            (ap (λ (l : List Row). addAll Row-discrete l []) filled-with ∙ addAll-last Row-discrete (filledRows first (rowsUpTo lines n)) (filledRow next lineRow) [])
 
         few : count' ≤ 4096
         few =
             go (decLe count' 4096)
             (omega (
               arith,
-              length-addAll Row-discrete (rowsUpTo lines (n + 1)) [],
+              length-addAll Row-discrete (filledRows first (rowsUpTo lines (n + 1))) [],
+              length-filledRows first (rowsUpTo lines (n + 1)),
               length-map (rowLines (take (n + 1) (linesIn lines))) rowOf,
               read .rows-are,
               row-at lines widths (p .row) n sheet (p .reading) more e .low,
             ))
           where
-            go : Dec (count' ≤ 4096) → length (addAll Row-discrete (rowsUpTo lines (n + 1)) []) ≤ 1024 → count' ≤ 4096
+            go : Dec (count' ≤ 4096) → length (addAll Row-discrete (filledRows first (rowsUpTo lines (n + 1))) []) ≤ 1024 → count' ≤ 4096
             go (yes l) m = l
             go (no l) m = absurd (omega (arith, m, all .over (omega arith)))
 
-pub put-all : {lines before index₀ widths rows index : List ℕ} {by count n : ℕ} → SheetHeld lines → Clear index₀ 24576
-    → Putting lines before index₀ widths rows index by count n → length lines ≤ 8 * n → RowsIn lines before rows index by count
-put-all {n = n} sheet clear p h =
+pub put-all : {lines before index₀ widths rows index : List ℕ} {by first count next n : ℕ} → SheetHeld lines → Clear index₀ 24576
+    → Putting lines before index₀ widths rows index by first count next n → length lines ≤ 8 * n
+    → RowsIn lines before rows index first (record { rows = count; pairs = 0; next = next; by = by })
+put-all {first = first} {next = next} {n = n} sheet clear p h =
+    let all = rows-all sheet n h in
     record {
       room = p .grown .room;
       stored = p .grown .stored (p .few);
-      rows-are = p .grown .rows-are (p .few) ∙ ap (λ (l : List Row). addAll Row-discrete l []) (rows-all sheet n h);
+      rows-are = p .grown .rows-are (p .few) ∙ ap (λ (l : List Row). addAll Row-discrete (filledRows first l) []) all;
       no-pairs = λ j l. p .grown .beyond j l ∙ clear .zeros j;
+      pairs = refl;
+      next = p .given ∙ ap (λ (l : List Row). first + zeros (numbersIn l)) all;
+      low = omega (arith, p .low, p .few-rows);
     }
+
+-- The first number is the one after the table's largest value.
+pub begun-so : {lines before rows index : List ℕ} {c : Counts} {first : ℕ} → first ≡ suc (largest (numbersIn (tableRows (linesIn lines)))) → first ≤ 100000000
+    → RowsIn lines before rows index first c → Begun lines before rows index c
+begun-so {lines} {before} {rows} {index} {c} is few r =
+    record { rows-in = subst (λ (k : ℕ). RowsIn lines before rows index k c) is r; next = omega (arith, r .next, is); low = omega (arith, r .low) }

@@ -3,6 +3,7 @@ pub mod BeginLaws
 pub mod CarryLaws
 pub mod CopyLaws
 pub mod CountLaws
+pub mod FillLaws
 pub mod FiringLaws
 pub mod HashLaws
 pub mod KeepLaws

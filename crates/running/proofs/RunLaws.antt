@@ -96,12 +96,12 @@ module _ {lines before numbers index : List ℕ} {c : Counts} (table : List ℕ)
   begun-running =
       record {
         stored = b .rows-in .stored;
-        noted = subst (Noted (c .by) table numbers index rules (c .rows)) (sym (b .pairs)) (no-pairs (c .by) table numbers index rules (c .rows) (b .rows-in .stored .size) (b .rows-in .no-pairs));
+        noted = subst (Noted (c .by) table numbers index rules (c .rows)) (sym (b .rows-in .pairs)) (no-pairs (c .by) table numbers index rules (c .rows) (b .rows-in .stored .size) (b .rows-in .no-pairs));
         low = omega (arith, b .low);
       }
 
   pub begun-state : stateAt table numbers index c ≡ begins (tableRows (linesIn lines))
-  begun-state = λ i. record { rows = b .rows-in .rows-are i; next = b .next i; fired = ap (pairsAt table numbers index) (b .pairs) i }
+  begun-state = λ i. record { rows = b .rows-in .rows-are i; next = b .next i; fired = ap (pairsAt table numbers index) (b .rows-in .pairs) i }
 
 -- ---- the end
 

@@ -47,7 +47,7 @@ module _ (numbers before now : List ℕ) where
     pub many : MoreThan (Reachable (rulesOf lines) (rowsOf lines)) recordLimit
     pub room : length now ≡ length before
 
-  -- At most so many are, and the fresh numbers in them, counted on from the table's largest value, pass 99,999,999.
+  -- At most so many are, and the table's zeros and the fresh numbers in them, counted on from the table's largest value, pass 99,999,999.
   pub record Outgrows : Type 0 where
     pub lines : List Line
     pub sheet : sheetHeld numbers ≡ good lines

@@ -6,6 +6,8 @@ use native.Mathlib.Decide.{ℕ-discrete}
 use lib.ListN.{length, getD}
 use Rattle.patterns.specs.Pattern.{addAll}
 use Rattle.chase.specs.Lists.{In}
+use Rattle.rules.specs.Table.{linesIn}
+use Rattle.carrying.specs.Carrying.{numbersIn, zeros as zerosIn, tableRows}
 use Rattle.chains.specs.inner.Chains.{Chains}
 
 -- The bucket of a value under a multiplier: the highest twelve of 32 bits of the product.
@@ -37,3 +39,10 @@ pub record Added (by : ℕ) (values : List ℕ) (count : ℕ) (numbers values' h
   pub stored : Stored by values' heads' next' r
   pub few : r ≤ count + length numbers
   pub are : (before : List ℕ) → AreOf values count before → AreOf values' r (before ++ numbers)
+
+-- So many different numbers the rows of lent lines have, 0 among them, and so many zeros.
+pub record ValuesAre (lines : List ℕ) (count zeros : ℕ) : Type 0 where
+  pub different-are : count ≡ length (addAll ℕ-discrete (numbersIn (tableRows (linesIn lines))) [])
+  pub zeros-are : zeros ≡ zerosIn (numbersIn (tableRows (linesIn lines)))
+  pub few : count ≤ 6144
+  pub few-zeros : zeros ≤ 6144

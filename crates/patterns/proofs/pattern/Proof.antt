@@ -1,35 +1,41 @@
 -- `pattern` meets its contract: its loop numbers the fields one by one. Assumes nothing.
-use mathlib.Core.Path.{ap, _∙_}
+use mathlib.Core.Path.{sym, ap, _∙_}
 use mathlib.Core.Logic.{⊎-elim}
-use Prim.Native.Nat.{_-_, _<_, _≤_}
+use Prim.Native.Nat.{ℕ, _-_, _<_, _≤_}
 use native.Mathlib.Omega.{arith}
 use borrow.Author.Needs.{needs}
 use borrow.Author.Tests.{eq-eqb, ne-eqb, lt-ltb, le-ltb}
 use lib.ListN.{length, replicate}
 use Rattle.patterns.specs.Outcome.{good}
+use Rattle.patterns.specs.Pattern.{none-at, Label-discrete, labels}
+use Rattle.patterns.proofs.LabelLaws.{length-labels}
 use Rattle.patterns.proofs.PatternRank.{ways, first}
 use Rattle.patterns.proofs.PatternRows.{entries, waysRow, waysTable, ways-at, firstTable, first-at}
-use Rattle.patterns.proofs.PatternSteps.{Numbered, Stepped, numbering-starts, known-field, new-field, numbering-ends}
+use Rattle.patterns.proofs.PatternSteps.{FieldsNumbered, Stepped, numbering-starts, known-field, new-field, numbering-ends}
 use Rattle.patterns.proofs.pattern.Statement.{statement}
 use Rattle.patterns.proofs.pattern.Tie as tie
 
 abbrev Inv-loop : tie.InvT-loop
-Inv-loop numbers n ways digits₀ largest₀ number₀ i₀ digits largest number i = Numbered numbers i largest number digits
+Inv-loop numbers n ways digits₀ largest₀ number₀ i₀ digits largest number i =
+    FieldsNumbered Label-discrete (none-at 0) (labels numbers) i largest number digits
 
 abbrev μ-loop : tie.MeasureT-loop
 μ-loop numbers n ways digits₀ largest₀ number₀ i₀ digits largest number i = length numbers - i
 
 started : (c : tie.After-size Inv-loop μ-loop)
-    → Numbered (c .before .before .before .before .args .numbers .now) 0 0 (c .size .result) (replicate 6 0)
+    → FieldsNumbered Label-discrete (none-at 0) (labels (c .before .before .before .before .args .numbers .now)) 0 0 (c .size .result) (replicate 6 0)
 unfolding firstTable entries first ways
 started c =
     let xs = c .before .before .before .before .args .numbers .now in
     let some : 1 ≤ length xs = omega (arith, c .before .before .if1 .left) in
     let most : length xs ≤ 6 = omega (arith, c .before .if2 .left) in
-    rw (c .size .ensures ∙ first-at (length xs) (omega arith)) (numbering-starts xs some most)
+    let e = length-labels xs in
+    rw (c .size .ensures ∙ first-at (length xs) (omega arith), ← e)
+    (numbering-starts Label-discrete (none-at 0) (labels xs) (omega arith) (omega arith))
 
 stepped : (c : tie.After-row-known Inv-loop μ-loop)
-    → Stepped (c .before .before .before .before .before .before .before .before .before .before .before .args .numbers .now)
+    → Stepped Label-discrete (none-at 0)
+    (labels (c .before .before .before .before .before .before .before .before .before .before .before .args .numbers .now))
     (c .before .before .before .before .before .before .loop .i)
     (c .before .before .before .before .before .before .loop .number)
     (c .before .before .before .before .before .before .loop .digits)
@@ -41,10 +47,12 @@ stepped c =
     let xs = c .before .before .before .before .before .before .before .before .before .before .before .args .numbers .now in
     let here = c .before .before .before .before .before .before .loop in
     let s = here .inv in
-    let l : here .i < length xs = c .before .before .before .before .before .loop-test .taken in
+    let e = length-labels xs in
+    let l : here .i < length (labels xs) = omega (arith, c .before .before .before .before .before .loop-test .taken) in
     let place = c .before .before .first-place .result in
     let p = c .before .before .first-place .ensures in
-    let w = c .before .before .before .size2 .ensures ∙ ways-at (length xs - 1 - here .i) (here .largest) (omega arith) in
+    let each = ways-at (length xs - 1 - here .i) (here .largest) (omega arith) in
+    let w = c .before .before .before .size2 .ensures ∙ each ∙ ap (λ (n : ℕ). ways (n - 1 - here .i) (here .largest)) (sym e) in
     ⊎-elim (λ m. known-field s l place _ _ _ p w (m .0 .taken) (m .1) (m .2)) (λ m. new-field s l place _ _ _ p w (m .0 .left) (m .1) (m .2))
     (c .before .if3 .came)
 
@@ -119,8 +127,9 @@ loop-again c = stepped c .next
 
 returns-3 : tie.Need-returns-3 Inv-loop μ-loop
 returns-3 c =
+    let e = length-labels (c .before .before .before .before .before .before .args .numbers .now) in
     rw (ne-eqb _ _ (c .before .before .before .before .if1 .left), le-ltb _ _ (c .before .before .before .if2 .left))
-    (ap good (numbering-ends (c .before .loop .inv) (c .loop-test .left)))
+    (ap good (numbering-ends (c .before .loop .inv) (omega (arith, c .loop-test .left))))
 
 pub pattern-spec : {M : Type 1} → statement M
 pattern-spec =

@@ -17,7 +17,7 @@ rowNumbers numbers n width = take width (drop (8 * n + 2) numbers)
 pub record RowAt (numbers : List ℕ) (n width number : ℕ) : Type 0 where
   pub line : Line
   pub size : 8 * n + 8 ≤ length numbers
-  pub named : nth (rowsIn numbers) number ≡ some (rowRecord line)
+  pub named : nth (rowsIn numbers) number ≡ some (rowRecord (record { number = number; item = line }))
   pub low : number ≤ 1024
   pub kind : getD numbers (8 * n + 1) 0 ≡ line .kind
   pub kind-fits : KindFits (line .kind)

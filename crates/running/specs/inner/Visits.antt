@@ -23,7 +23,7 @@ stateAt table numbers index c = record { rows = rowsAt numbers (c .rows); next =
 pub record Running (table numbers index : List ℕ) (rules : ℕ) (c : Counts) : Type 0 where
   pub stored : Stored numbers index (c .by) (c .rows)
   pub noted : Noted (c .by) table numbers index rules (c .rows) (c .pairs)
-  pub low : c .next ≤ 100000000 + 12 * c .pairs
+  pub low : c .next ≤ 100006144 + 12 * c .pairs
 
 -- The marks of each rule are as a sheet has them: none is skipped.
 pub record MarksRight (table : List ℕ) (rules : ℕ) : Type 0 where

@@ -7,15 +7,15 @@ use borrow.Author.Needs.{needs}
 use lib.ListN.{length, getD}
 use Rattle.rules.specs.Table.{SheetHeld}
 use Rattle.rules.proofs.RowLaws.{whole-line, kind-low, read-kind, read-other}
-use Rattle.forecasting.proofs.ValueLaws.{Counting, count-none, count-other, count-row, count-all, width-few, row-room}
+use Rattle.forecasting.proofs.ValueLaws.{Counting, count-none, count-other, count-row, count-all, width-few, row-room, zeros-room}
 use Rattle.forecasting.proofs.values.add_rows.Statement.{statement}
 use Rattle.forecasting.proofs.values.add_rows.Tie as tie
 
 abbrev Inv-loop : tie.InvT-loop
-Inv-loop lines values₀ heads₀ next₀ by widths₀ count₀ n₀ values heads next widths count n = Counting lines widths by values heads next count n
+Inv-loop lines values₀ heads₀ next₀ by widths₀ count₀ zeros₀ n₀ values heads next widths count zeros n = Counting lines widths by values heads next count zeros n
 
 abbrev μ-loop : tie.MeasureT-loop
-μ-loop lines values₀ heads₀ next₀ by widths₀ count₀ n₀ values heads next widths count n = length lines - n
+μ-loop lines values₀ heads₀ next₀ by widths₀ count₀ zeros₀ n₀ values heads next widths count zeros n = length lines - n
 
 sheet : (i : tie.In-loop Inv-loop μ-loop) → SheetHeld (i .before .before .before .before .before .before .args .lines .now)
 sheet i = i .before .before .before .before .before .before .pre .0
@@ -114,6 +114,27 @@ add-all-requires c κs = let u = c .before .before .before .before in
     let l = i .before .loop in
     (l .inv .stored, row-room (sheet i) (l .inv) (i .loop-test .taken) (u .before .if2 .taken) (u .of-u32 .result) (u .of-u32 .ensures .0))
 
+mul-zeros-of : tie.Need-mul-zeros-of Inv-loop μ-loop
+mul-zeros-of c = search needs
+
+sub-zeros-of : tie.Need-sub-zeros-of Inv-loop μ-loop
+sub-zeros-of c = search needs
+
+part-zeros-of-start : tie.Need-part-zeros-of-start Inv-loop μ-loop
+part-zeros-of-start c = search needs
+
+part-zeros-of-end : tie.Need-part-zeros-of-end Inv-loop μ-loop
+part-zeros-of-end c = let u = c .before .before .before .before .before .before .before .before .before .before .before in let w = whole (u .before .before .before .before .before) in let f = width u in search needs
+
+zeros-of-requires : tie.Need-zeros-of-requires Inv-loop μ-loop
+zeros-of-requires c κs = search needs
+
+add-zeros : tie.Need-add-zeros Inv-loop μ-loop
+add-zeros c = let u = c .before .before .before .before .before .before .before .before .before .before .before .before .before in
+    let i = u .before .before .before .before .before in
+    let room = zeros-room (sheet i) (i .before .loop .inv) (i .loop-test .taken) (u .before .if2 .taken) (u .of-u32 .result) (u .of-u32 .ensures .0) in
+    omega (arith, room, c .zeros-of .ensures .1)
+
 add-n : tie.Need-add-n Inv-loop μ-loop
 add-n c = search needs
 
@@ -125,11 +146,11 @@ loop-again c = let i = c .before .before .before in
     let p = i .before .loop .inv in
     let more = i .loop-test .taken in
     ⊎-elim
-    (λ w. rw (w .2, w .3, w .4, w .5, w .6) (count-other (sheet i) p more (λ e. omega (arith, w .0 .taken, e)) (read-kind _ _ _ _ (sheet i) (p .reading) more (w .0 .taken))))
+    (λ w. rw (w .2, w .3, w .4, w .5, w .6, w .7) (count-other (sheet i) p more (λ e. omega (arith, w .0 .taken, e)) (read-kind _ _ _ _ (sheet i) (p .reading) more (w .0 .taken))))
     (λ u.
     ⊎-elim
-    (λ w. rw (w .14, w .15, w .16, w .17, w .18) (count-row (sheet i) p more (w .1 .taken) (w .2 .result) (w .2 .ensures .0) (w .7 .ensures)))
-    (λ w. rw (w .2, w .3, w .4, w .5, w .6) (count-other (sheet i) p more (w .1 .left) (read-other _ _ _ _ (sheet i) (p .reading) more (w .0 .left) (w .1 .left))))
+    (λ w. rw (w .16, w .17, w .18, w .19, w .20, w .21) (count-row (sheet i) p more (w .1 .taken) (w .2 .result) (w .2 .ensures .0) (w .7 .ensures) (w .15 .ensures .0) (w .15 .ensures .1)))
+    (λ w. rw (w .2, w .3, w .4, w .5, w .6, w .7) (count-other (sheet i) p more (w .1 .left) (read-other _ _ _ _ (sheet i) (p .reading) more (w .0 .left) (w .1 .left))))
     u)
     (c .if1 .came)
 
@@ -178,6 +199,12 @@ add-rows-spec =
     part-add-all-start
     part-add-all-end
     add-all-requires
+    mul-zeros-of
+    sub-zeros-of
+    part-zeros-of-start
+    part-zeros-of-end
+    zeros-of-requires
+    add-zeros
     add-n
     loop-less
     loop-again

@@ -1,6 +1,6 @@
 -- `forecasting::values::count_values` meets its contract. Assumes nothing.
 use borrow.Author.Needs.{needs}
-use Rattle.forecasting.proofs.ValueLaws.{stored-none}
+use Rattle.forecasting.proofs.ValueLaws.{stored-none, without-zeros, with-zeros}
 use Rattle.forecasting.proofs.values.count_values.Statement.{statement}
 use Rattle.forecasting.proofs.values.count_values.Tie as tie
 
@@ -29,7 +29,16 @@ add-rows-requires : tie.Need-add-rows-requires
 add-rows-requires c κs = (c .before .before .before .before .before .before .before .before .pre, stored-none (c .before .before .before .multiplier .ensures) (c .before .before .before .before .before .before .no-values .ensures) (c .before .before .before .before .before .no-heads .ensures) (c .before .before .before .before .no-next .ensures))
 
 returns : tie.Need-returns
-returns c = search needs
+returns c = without-zeros (c .before .before .before .before .add-rows .ensures) (c .if1 .taken)
+
+add-result : tie.Need-add-result
+add-result c = search needs
+
+sub-result : tie.Need-sub-result
+sub-result c = search needs
+
+returns-2 : tie.Need-returns-2
+returns-2 c = with-zeros (c .before .before .before .before .before .add-rows .ensures) (c .before .if1 .left)
 
 pub count-values-spec : {M : Type 1} → statement M
 count-values-spec =
@@ -43,4 +52,7 @@ count-values-spec =
     slice-aggregate-add-rows-2
     slice-aggregate-add-rows-3
     add-rows-requires
-    returns)
+    returns
+    add-result
+    sub-result
+    returns-2)

@@ -2,10 +2,9 @@
 use mathlib.Core.Path.{_≡_, refl, sym, ap, subst, _∙_}
 use mathlib.Core.List.{map}
 use Prim.Native.Nat.{ℕ, _+_, _-_, _*_, _<_}
-use native.Mathlib.Decide.{ℕ-discrete}
 use native.Mathlib.Omega.{arith}
 use lib.ListN.{length, take, length-take}
-use Rattle.patterns.specs.Pattern.{pattern}
+use Rattle.patterns.specs.Pattern.{numbersPattern}
 use Rattle.rules.specs.Table.{ruleIn, rowBytes}
 use Rattle.judging.specs.inner.Codes.{CodeIs, madeNumber}
 use Rattle.rules.proofs.RuleLaws.{RowFits, row-fits, headAt, head-below, head-fits, Width, Mark, head-width-read, head-mark-read}
@@ -156,7 +155,7 @@ returns c =
     filled-all marks (a .digits) line (omega arith) (l .loop .numbers) (subst (λ (n : ℕ). Filled marks (a .digits) line (l .loop .numbers) n) i (l .loop .inv)) in
     made-of (row b) (a .h) (b .pre .2) (a .digits) (take (l .before .rule-byte .result) (l .loop .numbers)) (c .shape-code .result)
     (ap (λ (n : ℕ). take n (l .loop .numbers)) (w .is) ∙ all)
-    (subst (λ (k : ℕ). CodeIs k (pattern ℕ-discrete (take (l .before .rule-byte .result) (l .loop .numbers))) (c .shape-code .result))
+    (subst (λ (k : ℕ). CodeIs k (numbersPattern (take (l .before .rule-byte .result) (l .loop .numbers))) (c .shape-code .result))
     (c .before .before .rule-byte3 .ensures .0) (c .shape-code .ensures))
 
 pub made-spec : {M : Type 1} → statement M

@@ -7,17 +7,18 @@ use borrow.Author.Needs.{needs}
 use lib.ListN.{length, getD}
 use Rattle.rules.specs.Table.{SheetHeld}
 use Rattle.rules.proofs.RowLaws.{whole-line, kind-low, read-kind, read-other}
+use Rattle.running.proofs.FillLaws.{filledRow}
 use Rattle.running.proofs.FiringLaws.{made-packed}
-use Rattle.running.proofs.BeginLaws.{Putting, put-none, put-other, put-row, put-all, width-few, row-narrow}
+use Rattle.running.proofs.BeginLaws.{Putting, put-none, put-other, put-row, put-all, next-low, width-few, row-narrow}
 use Rattle.rules.specs.inner.Rows.{rowNumbers}
 use Rattle.running.proofs.rows.put_rows.Statement.{statement}
 use Rattle.running.proofs.rows.put_rows.Tie as tie
 
 abbrev Inv-loop : tie.InvT-loop
-Inv-loop lines rows₀ index₀ by widths₀ count₀ n₀ rows index widths count n = Putting lines rows₀ index₀ widths rows index by count n
+Inv-loop lines rows₀ index₀ by first widths₀ count₀ next₀ n₀ rows index widths count next n = Putting lines rows₀ index₀ widths rows index by first count next n
 
 abbrev μ-loop : tie.MeasureT-loop
-μ-loop lines rows₀ index₀ by widths₀ count₀ n₀ rows index widths count n = length lines - n
+μ-loop lines rows₀ index₀ by first widths₀ count₀ next₀ n₀ rows index widths count next n = length lines - n
 
 sheet : (i : tie.In-loop Inv-loop μ-loop) → SheetHeld (i .before .before .before .before .before .args .lines .now)
 sheet i = i .before .before .before .before .before .pre .0
@@ -30,7 +31,7 @@ low i = kind-low _ _ _ _ (sheet i) (i .before .loop .inv .reading) (i .loop-test
 
 loop-holds : tie.Need-loop-holds Inv-loop μ-loop
 loop-holds c = let s = c .before .before .before in
-    put-none _ _ _ _ (s .pre .1) (s .pre .2) (s .pre .3)
+    put-none _ _ _ _ _ (s .pre .1) (s .pre .2) (s .pre .3)
 
 mul-loop : tie.Need-mul-loop Inv-loop μ-loop
 mul-loop c = search needs
@@ -88,18 +89,24 @@ of-u32-requires c κs = search needs
 
 row-at-requires : tie.Need-row-at-requires Inv-loop μ-loop
 row-at-requires c κs = let i = c .before .before .before .before .before in
-    (whole i, width-few (sheet i) (i .before .loop .inv) (i .loop-test .taken) (c .before .if2 .taken) (c .of-u32 .result) (c .of-u32 .ensures .0), low i)
+    let p = i .before .loop .inv in
+    let more = i .loop-test .taken in (
+      whole i,
+      width-few (sheet i) p more (c .before .if2 .taken) (c .of-u32 .result) (c .of-u32 .ensures .0),
+      low i,
+      omega (arith, next-low (sheet i) p more, i .before .before .before .before .before .pre .4),
+    )
 
 slice-aggregate-add : tie.Need-slice-aggregate-add Inv-loop μ-loop
 slice-aggregate-add c = search needs
 
 add-requires : tie.Need-add-requires Inv-loop μ-loop
-add-requires c κs = let u = c .before .before .before .before in
+add-requires c κs = let u = c .before .before .before .before .before in
     let i = u .before .before .before .before .before in
     let l = i .before .loop in
     let lines = i .before .before .before .before .before .args .lines .now in
-    let m = made-packed (record { kind = getD lines (8 * l .n + 1) 0; numbers = rowNumbers lines (l .n) (u .of-u32 .result) }) (c .before .before .before .row-at .ensures)
-    (row-narrow (sheet i) (l .inv) (i .loop-test .taken) (u .before .if2 .taken) (u .of-u32 .result) (u .of-u32 .ensures .0)) in
+    let m = made-packed (filledRow _ (record { kind = getD lines (8 * l .n + 1) 0; numbers = rowNumbers lines (l .n) (u .of-u32 .result) })) (c .before .before .before .before .row-at .ensures .0)
+    (row-narrow (sheet i) (l .inv) (i .loop-test .taken) (u .before .if2 .taken) (u .of-u32 .result) (u .of-u32 .ensures .0) _) in
     (l .inv .grown .stored (l .inv .few), m .0, m .1)
 
 add-n : tie.Need-add-n Inv-loop μ-loop
@@ -113,11 +120,11 @@ loop-again c = let i = c .before .before .before in
     let p = i .before .loop .inv in
     let more = i .loop-test .taken in
     ⊎-elim
-    (λ w. rw (w .2, w .3, w .4, w .5) (put-other (sheet i) p more (λ e. omega (arith, w .0 .taken, e)) (read-kind _ _ _ _ (sheet i) (p .reading) more (w .0 .taken))))
+    (λ w. rw (w .2, w .3, w .4, w .5, w .6) (put-other (sheet i) p more (λ e. omega (arith, w .0 .taken, e)) (read-kind _ _ _ _ (sheet i) (p .reading) more (w .0 .taken))))
     (λ u.
     ⊎-elim
-    (λ w. rw (w .12, w .13, w .14, w .15) (put-row (sheet i) p more (w .1 .taken) (w .2 .result) (w .2 .ensures .0) (w .3 .ensures) (w .7 .ensures)))
-    (λ w. rw (w .2, w .3, w .4, w .5) (put-other (sheet i) p more (w .1 .left) (read-other _ _ _ _ (sheet i) (p .reading) more (w .0 .left) (w .1 .left))))
+    (λ w. rw (w .13, w .14, w .15, w .16, w .17) (put-row (sheet i) p more (w .1 .taken) (w .2 .result) (w .2 .ensures .0) (w .3 .ensures .0) (w .3 .ensures .1) (w .8 .ensures)))
+    (λ w. rw (w .2, w .3, w .4, w .5, w .6) (put-other (sheet i) p more (w .1 .left) (read-other _ _ _ _ (sheet i) (p .reading) more (w .0 .left) (w .1 .left))))
     u)
     (c .if1 .came)
 
