@@ -20,18 +20,23 @@ static int by_size(const void *a, const void *b)
 size_t values_in(const uint8_t *sheet, size_t sheet_size, const uint8_t *lines, size_t line_count)
 {
     static uint32_t values[FOLLOWUP_RECORDS * FOLLOWUP_WIDTH_MAX];
-    size_t count = 0, different = 0;
+    size_t count = 0, different = 0, zeros = 0;
     for (size_t line = 0; line < line_count; line++) {
         if (followup_line_number(lines, line, 0) != 'R')
             continue;
         size_t width = width_in(sheet, sheet_size, followup_line_number(lines, line, 1));
-        for (size_t field = 0; field < width; field++)
-            values[count++] = followup_line_number(lines, line, 2 + field);
+        for (size_t field = 0; field < width; field++) {
+            uint32_t value = followup_line_number(lines, line, 2 + field);
+            if (value == 0)
+                zeros++;
+            else
+                values[count++] = value;
+        }
     }
     qsort(values, count, sizeof values[0], by_size);
     for (size_t k = 0; k < count; k++)
         different += k == 0 || values[k] != values[k - 1];
-    return different;
+    return different + zeros;
 }
 
 static uint64_t plus(uint64_t a, uint64_t b)

@@ -9,7 +9,7 @@ static size_t line_count;
 static const uint8_t *records; /* the ones to check */
 static size_t record_count;
 static size_t found;           /* how many of them are accounted for, from the first */
-static uint32_t next;          /* the next fresh number */
+static uint32_t next;          /* the next number for a 0 of the table or a fresh mark */
 
 static uint32_t number_in(size_t line, size_t k)
 {
@@ -22,6 +22,21 @@ static size_t width_of(uint32_t kind)
     while (number_in(line, 0) != 'K' || number_in(line, 1) != kind)
         line++;
     return number_in(line, 2);
+}
+
+int zero_among(const uint8_t *sheet, size_t sheet_size, const uint8_t *given, size_t count)
+{
+    size_t width[FOLLOWUP_KINDS_MAX + 1] = {0};
+    for (size_t line = 0; line < sheet_size / FOLLOWUP_LINE_BYTES; line++)
+        if (followup_line_number(sheet, line, 0) == 'K')
+            width[followup_line_number(sheet, line, 1)] = followup_line_number(sheet, line, 2);
+    for (size_t record = 0; record < count; record++) {
+        uint32_t kind = followup_line_number(given, record, 1);
+        for (size_t field = 0; kind <= FOLLOWUP_KINDS_MAX && field < width[kind]; field++)
+            if (followup_line_number(given, record, 2 + field) == 0)
+                return 1;
+    }
+    return 0;
 }
 
 static int same_record(const uint8_t *bytes, size_t at)
@@ -117,6 +132,27 @@ static int fire(size_t body, size_t record)
     return 1;
 }
 
+/* The number after the largest that stands in a row. */
+static uint32_t after_largest(void)
+{
+    uint32_t largest = 0;
+    for (size_t line = 0; line < line_count; line++)
+        for (size_t field = 0; number_in(line, 0) == 'R' && field < FOLLOWUP_WIDTH_MAX; field++)
+            largest = number_in(line, 2 + field) > largest ? number_in(line, 2 + field) : largest;
+    return largest + 1;
+}
+
+/* Accounts for a row, each 0 of which has the next number. */
+static int account_for_row(size_t line)
+{
+    uint8_t row[FOLLOWUP_LINE_BYTES];
+    memcpy(row, lines + line * FOLLOWUP_LINE_BYTES, sizeof row);
+    for (size_t field = 0; field < width_of(number_in(line, 1)); field++)
+        if (number_in(line, 2 + field) == 0)
+            followup_put_u32(row + 8 + 4 * field, next++);
+    return account_for(row);
+}
+
 int records_hold(const uint8_t *sheet, size_t sheet_size, const uint8_t *given, size_t count, size_t firings)
 {
     size_t fired = 0;
@@ -124,15 +160,11 @@ int records_hold(const uint8_t *sheet, size_t sheet_size, const uint8_t *given, 
     line_count = sheet_size / FOLLOWUP_LINE_BYTES;
     records = given;
     record_count = count;
-    found = next = 0;
+    found = 0;
+    next = after_largest();
     for (size_t line = 0; line < line_count; line++)
-        if (number_in(line, 0) == 'R') {
-            for (size_t field = 0; field < FOLLOWUP_WIDTH_MAX; field++)
-                next = number_in(line, 2 + field) > next ? number_in(line, 2 + field) : next;
-            if (!account_for(lines + line * FOLLOWUP_LINE_BYTES))
-                return 0;
-        }
-    next++;
+        if (number_in(line, 0) == 'R' && !account_for_row(line))
+            return 0;
     for (size_t record = 0; record < found; record++)
         for (size_t line = 0; line < line_count; line++)
             if (number_in(line, 0) == 'B' && fires_on(line, record) && !has_fired(line, record)) {

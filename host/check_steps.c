@@ -5,6 +5,7 @@
 
 static const uint8_t *lines; /* of the sheet whose steps are checked */
 static size_t lines_size;
+static uint32_t used = FOLLOWUP_NUMBER_MAX; /* the last number that stands for a 0 or is fresh */
 
 struct record {
     uint32_t kind;
@@ -86,7 +87,6 @@ static int fires(size_t body, const struct record *on)
  * the carried values, and then the number is another one, or not in the record made. */
 static struct record made_by(size_t body, size_t head, const struct record *on)
 {
-    static uint32_t used = FOLLOWUP_NUMBER_MAX;
     struct record made = {.kind = number_at(head, 1), .width = width_of(number_at(head, 1))};
     size_t generation = 0;
     for (size_t k = 0; k < on->width; k++)
@@ -174,8 +174,10 @@ static int start_at(size_t row, struct record *record)
     memset(record, 0, sizeof *record);
     record->kind = number_at(line, 1);
     record->width = width_of(record->kind);
-    for (size_t k = 0; k < record->width; k++)
-        record->number[k] = number_at(line, 2 + k);
+    for (size_t k = 0; k < record->width; k++) {
+        uint32_t number = number_at(line, 2 + k);
+        record->number[k] = number != 0 ? number : ++used; /* a 0 is equal to itself alone */
+    }
     return 1;
 }
 

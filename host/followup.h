@@ -10,6 +10,10 @@
  * Numbers. Lent lines, fields and records are u32, lent steps are u16, each as its bytes, lowest first. A last part too short for
  * a number (up to 3 bytes of lines, fields or records, 1 byte of steps) counts as none and is never changed.
  *
+ * Zeros. A 0 in an R line says that no label is given there. Each is a value of its own with generation 0 and equal to itself alone: equal
+ * rows that hold a 0 are two records, and equal marks do not fit two zeros, but they fit one that a rule has carried to both fields. To
+ * reading and writing 0 is a number as any other; marks are never 0.
+ *
  * Pointers. A pointer may be NULL where its length is 0. Otherwise the whole length must be readable (const) or readable and
  * writable (lent). Alignment 1 suffices. No length may pass PTRDIFF_MAX. Lent memory must not overlap the input, and during
  * a call no other thread may write to the input or touch the lent memory.
@@ -96,7 +100,7 @@ enum {
     FOLLOWUP_RECORDS_SHORT = 12, /* carry: room for fewer than 4,096 records is lent; line 0 */
     FOLLOWUP_SHEET_ENDLESS = 21, /* forecast, carry: the sheet is endless; line 0 */
     FOLLOWUP_RECORDS_OVER = 22,  /* carry: more than 4,096 records are reachable; line 0 */
-    FOLLOWUP_NUMBER_OVER = 23    /* carry: a fresh number over 99,999,999 would be needed; line 0 */
+    FOLLOWUP_NUMBER_OVER = 23    /* carry: a number over 99,999,999 would be needed, for a 0 of the table or a fresh mark; line 0 */
 };
 
 /* Verdicts. */
@@ -199,7 +203,8 @@ static inline struct followup_reply followup_write(const uint8_t *lines, size_t 
     return FOLLOWUP_EXPORTED(followup_write)(lines_len ? lines : &none, lines_len, text_len ? text : &none, text_len);
 }
 
-/* The number of a record's pattern; its fields are 4 bytes each. Refusal: 10. */
+/* The number of a record's pattern; its fields are 4 bytes each. A 0 is equal to no other field: (0, 0) is number 3, as (7, 8) is.
+ * Refusal: 10. */
 static inline struct followup_reply followup_pattern(const uint8_t *fields, size_t fields_len)
 {
     uint8_t none = 0;
@@ -224,10 +229,10 @@ static inline struct followup_judge_reply followup_judge_text(const uint8_t *tex
 }
 
 /* Foretells of lent lines, 32 bytes each, as reading gives them, what carrying their rules out may come to, and does not carry them out.
- * Let t be the count of the rows' different values. As often as the deepest generation says, the next t is the first t plus, over all
- * rules, fresh marks * t to the power of the carried marks; the power 0 is 1. The figures are the last t, the sum over the declared kinds
- * of t to the width, and the sum over the rules of t to the power of the carried marks. They are bounds: a run mostly leaves far less.
- * The lines are read and nothing else is lent. No lines give 0, 0, 0. Refusals: 8; 11; 21. */
+ * Let t be the count of the rows' different values, each 0 being one. As often as the deepest generation says, the next t is the first t
+ * plus, over all rules, fresh marks * t to the power of the carried marks; the power 0 is 1. The figures are the last t, the sum over the
+ * declared kinds of t to the width, and the sum over the rules of t to the power of the carried marks. They are bounds: a run mostly leaves
+ * far less. The lines are read and nothing else is lent. No lines give 0, 0, 0. Refusals: 8; 11; 21. */
 static inline struct followup_forecast_reply followup_forecast(const uint8_t *lines, size_t lines_len)
 {
     uint8_t none = 0;
@@ -235,10 +240,11 @@ static inline struct followup_forecast_reply followup_forecast(const uint8_t *li
 }
 
 /* Carries the rules out on lent lines, 32 bytes each, as reading gives them, and gives the records as R lines, 32 bytes each: 82, the
- * kind, six numbers; unused ones are 0. The table's rows come first, equal ones once, then what was made, in the order in which it was
- * made. The records are visited in that order and for each the rules in sheet order; a rule fires once for the same values of its
- * carried marks, and its fresh marks then get, by rising mark, the next numbers after the table's largest value. At least
- * FOLLOWUP_RECORDS_BYTES are to be lent. A good call changes the first records * 32 bytes. Refusals: 12; 8; 11; 21; 22; 23. */
+ * kind, six numbers; unused ones are 0. First each 0 of the table gets, by row and then by field, the next number after the table's largest
+ * value, so that no record holds a 0. The table's rows come first, equal ones once, then what was made, in the order in which it was made.
+ * The records are visited in that order and for each the rules in sheet order; a rule fires once for the same values of its carried
+ * marks, and its fresh marks then get, by rising mark, the next numbers. At least FOLLOWUP_RECORDS_BYTES are to be lent. A good call
+ * changes the first records * 32 bytes. Refusals: 12; 8; 11; 21; 22; 23. */
 static inline struct followup_carry_reply followup_carry(const uint8_t *lines, size_t lines_len, uint8_t *records, size_t records_len)
 {
     uint8_t none = 0;
@@ -296,7 +302,7 @@ static inline const char *followup_refusal_text(uint32_t refusal)
     case FOLLOWUP_RECORDS_OVER:
         return "The rules make more than 4,096 records, the rows among them.";
     case FOLLOWUP_NUMBER_OVER:
-        return "A fresh number over 99,999,999 would be needed.";
+        return "A number over 99,999,999 would be needed, for a label that is not given or a fresh mark.";
     default:
         return "There is no refusal of this number.";
     }

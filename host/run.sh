@@ -82,7 +82,7 @@ judge_tool() {
     unreadable "$1" examples/loop.sheet
 }
 
-# carry_tool PROGRAM: what carry_file prints for each example and says of a line that is not in the form is as stored.
+# carry_tool PROGRAM: what carry_file prints for each example and for labels that are not given, and what it says of a line that is not in the form, is as stored.
 carry_tool() {
     carry_file=$work/$1
     {
@@ -93,6 +93,10 @@ carry_tool() {
         "$carry_file" --names examples/bank_day.names examples/pallets.sheet
         echo "exit status $?"
         printf 'K        1        2\r\n' | "$carry_file" -
+        echo "exit status $?"
+        printf 'K        1        2\nB        1        1        1\nH        1        2        1\nR        1        0        0\nR        1        0        0\nR        1        7        7\n' | "$carry_file" -
+        echo "exit status $?"
+        printf 'K        1        2\nR        1 99999999        0\n' | "$carry_file" -
         echo "exit status $?"
     } >"$work/said" 2>&1
     diff host/carry_file.expected "$work/said" || fail "$1: it says other than host/carry_file.expected"

@@ -205,6 +205,12 @@ static void try_example(void)
     judges_as("the example", figures);
     job = try_call(JUDGE, lines, lines_size, FOLLOWUP_STEPS_BYTES);
     check(says(&job, 0, 0) && memcmp(result, one_step, 10) == 0, "the one step");
+    clear();
+    sheet("K 1 2;B 1 1 2;H 1 2 3;R 1 0 0");
+    try_both_ways();
+    judges_as("the example with a row of zeros", figures);
+    job = try_call(JUDGE, lines, lines_size, FOLLOWUP_STEPS_BYTES);
+    check(says(&job, 0, 0) && memcmp(result, one_step, 10) == 0, "the one step");
     end_group();
 }
 
@@ -228,6 +234,13 @@ static const struct {
     {"three rules of eight fired",
      "K 1 1;K 2 1;B 1 1;H 1 1;B 1 1;H 1 1;B 1 1;H 1 1;B 2 1;H 2 1;B 2 1;H 2 1;B 2 1;H 2 1;B 2 1;H 2 1;B 2 1;H 2 1;R 1 5",
      {1, 0, 1, 3, 38, 0, 0, 0}},
+    {"P(1,1)->P(2,1), row 0 0", "K 1 2;B 1 1 1;H 1 2 1;R 1 0 0", {1, 0, 1, 0, 0, 0, 0, 0}},
+    {"P(1,1)->P(2,1), rows 0 0, 0 0, 7 7", "K 1 2;B 1 1 1;H 1 2 1;R 1 0 0;R 1 0 0;R 1 7 7", {1, 1, 2, 1, 100, 3, 1, 0}},
+    {"P(1,1)->Q(1,2), Q(1,2)->P(2,2), row P 0 0", "K 1 2;K 2 2;B 1 1 1;H 2 1 2;B 2 1 2;H 1 2 2;R 1 0 0", {1, 0, 1, 0, 0, 0, 0, 0}},
+    {"P(1,1)->Q(1,2), Q(1,2)->P(2,2), row P 7 7", "K 1 2;K 2 2;B 1 1 1;H 2 1 2;B 2 1 2;H 1 2 2;R 1 7 7", {2, 0, 2, 2, 100, 1, ANY, 2}},
+    {"P(1,1)->Q(1,2), Q(1,2)->P(2,2), row Q 7 0", "K 1 2;K 2 2;B 1 1 1;H 2 1 2;B 2 1 2;H 1 2 2;R 2 7 0", {2, 0, 2, 2, 100, 1, ANY, 2}},
+    {"P(1)->Q(1,1), Q(1,1)->T(1,2), row P 0", "K 1 1;K 2 2;K 3 2;B 1 1;H 2 1 1;B 2 1 1;H 3 1 2;R 1 0", {1, 1, 3, 2, 100, 1, 2, 0}},
+    {"P(1,2)->P(3,1), row 0 0", "K 1 2;B 1 1 2;H 1 3 1;R 1 0 0", {2, 0, 1, 1, 100, 1, 0, 1}},
     {"the second row starts it", "K 1 1;K 2 1;B 2 1;H 2 2;R 1 5;R 2 5", {1, 1, 2, 1, 100, 2, 1, 0}},
     {"widths 1 to 6, largest numbers",
      "K 1 1;K 2 2;K 3 3;K 4 4;K 5 5;K 64 6;B 64 1 2 3 4 5 6;H 64 7 8 9 10 11 12;H 1 1;H 2 1 2;H 3 1 2 3;R 64 0 99999999 2 3 4 5",
@@ -555,6 +568,53 @@ static void try_pattern(const uint32_t *pattern, size_t width, size_t number)
     check(says(&job, 0, 0) && job.count == number, "the number of a pattern");
 }
 
+/* Asks for the pattern of fields as they stand. */
+static void try_zeros(const uint32_t *numbers, size_t width, size_t number)
+{
+    uint8_t fields[28];
+    fill(fields, sizeof fields);
+    for (size_t k = 0; k < width; k++)
+        followup_put_u32(fields + 4 * k, numbers[k]);
+    struct job job = try_call(PATTERN, fields, 4 * width + below(4), 0);
+    check(says(&job, 0, 0) && job.count == number, "the number of a pattern with zeros");
+}
+
+/* The number of a pattern, counted from the first one of one field. */
+static size_t number_of(const uint32_t *wanted, size_t width)
+{
+    size_t number = 0;
+    for (size_t fields = 1; fields <= width; fields++) {
+        uint32_t pattern[FOLLOWUP_WIDTH_MAX] = {1, 1, 1, 1, 1, 1};
+        do {
+            number++;
+            if (fields == width && memcmp(pattern, wanted, width * sizeof pattern[0]) == 0)
+                return number;
+        } while (next_pattern(pattern, fields));
+    }
+    return 0;
+}
+
+/* Every pattern of every width with 0 in some of its fields: each of these is a group of its own. */
+static void try_all_zeros(void)
+{
+    for (size_t width = 1; width <= FOLLOWUP_WIDTH_MAX; width++) {
+        uint32_t pattern[FOLLOWUP_WIDTH_MAX] = {1, 1, 1, 1, 1, 1};
+        do {
+            for (unsigned zeros = 0; zeros < 1u << width; zeros++) {
+                uint32_t fields[FOLLOWUP_WIDTH_MAX], want[FOLLOWUP_WIDTH_MAX], begun = 0;
+                for (size_t k = 0; k < width; k++) {
+                    size_t first = 0;
+                    fields[k] = zeros >> k & 1 ? 0 : pattern[k];
+                    while (first < k && (fields[k] == 0 || fields[first] != fields[k]))
+                        first++;
+                    want[k] = first < k ? want[first] : ++begun;
+                }
+                try_zeros(fields, width, number_of(want, width));
+            }
+        } while (next_pattern(pattern, width));
+    }
+}
+
 static void try_patterns(void)
 {
     size_t number = 0;
@@ -568,6 +628,12 @@ static void try_patterns(void)
     check(number == FOLLOWUP_PATTERNS, "278 patterns");
     try_pattern((uint32_t[]){1, 1}, 2, 2);
     try_pattern((uint32_t[]){7, 4, 7, 9}, 4, 16);
+    try_zeros((uint32_t[]){0}, 1, 1);
+    try_zeros((uint32_t[]){0, 0}, 2, 3);
+    try_zeros((uint32_t[]){0, 7, 7}, 3, 7);
+    try_zeros((uint32_t[]){7, 0, 7, 0}, 4, 16);
+    try_zeros((uint32_t[]){0, 0, 0, 0, 0, 0}, 6, 278);
+    try_all_zeros();
     for (size_t size = 0; size < 100; size++) {
         struct job job = try_call(PATTERN, text, size, 0);
         check((job.said.refusal == 10) == (size < 4 || size >= 28), "10 where there is no field, or more than six");
@@ -769,11 +835,12 @@ static void random_sheet(void)
         for (size_t head = 1 + below(4); head > 0; head--)
             random_marks('H', kind[below(kind_count)], &top);
     }
+    uint32_t least = (uint32_t)below(2); /* with zeros, or without */
     for (size_t row = 0; row < row_count; row++) {
         const uint32_t *of = kind[below(kind_count)];
         uint32_t numbers[7] = {of[0]};
         for (size_t k = 1; k <= of[1]; k++)
-            numbers[k] = (uint32_t)below(4);
+            numbers[k] = least + (uint32_t)below(4);
         add('R', numbers, of[1] + 1);
     }
 }

@@ -55,7 +55,12 @@ static const struct {
     {"K 1 1;K 2 2;B 1 1;H 2 2 3;H 2 3 2;R 1 4;R 1 8", 4, 20, 1},
     {"K 1 2;B 1 1 2;H 1 2 3", 0, 0, 0},
     {"K 1 1;K 2 1;B 1 1;H 2 2", 0, 0, 1},
-    {"K 1 1;R 1 3;R 1 0;R 1 3;R 1 0", 2, 2, 0},
+    {"K 1 1;R 1 3;R 1 4;R 1 3;R 1 4", 2, 2, 0},
+    {"K 1 1;R 1 3;R 1 0;R 1 3;R 1 0", 3, 3, 0},
+    {"K 1 2;B 1 1 1;H 1 2 1;R 1 0 0;R 1 0 0;R 1 7 7", 10, 100, 10},
+    {"K 1 2;B 1 1 1;H 1 2 1;R 1 0 0;R 1 0 0", 4, 16, 4},
+    {"K 1 2;K 2 2;B 1 1 2;H 2 2 3;R 1 0 4;R 1 3 4;R 1 0 4;R 1 3 4", 8, 128, 8},
+    {"K 1 1;K 2 2;K 3 2;B 1 1;H 2 1 1;B 2 1 1;H 3 1 2;R 1 0", 2, 10, 4},
     {"K 1 1;K 2 3;B 2 1 1 1;H 2 1 1 1;R 1 5;R 1 6", 2, 10, 2},
     {"K 1 2;B 1 1 1;H 1 2 1;R 1 7 7", 2, 4, 2},
     {"K 1 6;K 64 6;B 1 1 2 3 4 5 6;H 64 7 8 9 10 11 12;R 1 1 2 3 4 5 6", 12, 5971968, 1},
@@ -77,7 +82,7 @@ static void fifteen_kinds(void)
     sheet("K 1 1;K 2 1;K 3 1;K 4 1;K 5 2;K 6 2;K 7 2;K 8 2;K 9 2;K 10 2;K 11 3;K 12 3;K 13 3;K 14 3;K 15 4");
 }
 
-/* Adds a rule so often. */
+/* Adds a rule, or other lines, so often. */
 static void rules(size_t count, const char *form)
 {
     while (count-- > 0)
@@ -113,6 +118,15 @@ static void try_figures(void)
     sheet("K 16 1");
     rows(255);
     foretells("255 records more", 255, FOLLOWUP_BEYOND, 0);
+    fifteen_kinds();
+    rules(255, "R 1 0");
+    foretells("4,294,967,295 records of zeros", 255, 4294967295, 0);
+    sheet("R 1 0");
+    foretells("a 0 more", 256, FOLLOWUP_BEYOND, 0);
+    clear();
+    sheet("K 1 6");
+    rules(FOLLOWUP_ROWS_MAX, "R 1 0 0 0 0 0 0");
+    foretells("6,144 zeros", 6144, FOLLOWUP_BEYOND, 0);
     fifteen_kinds();
     fifteen_rules();
     rows(255);

@@ -86,7 +86,7 @@ void copy_rules(size_t count, size_t heads)
 
 void rows(size_t count)
 {
-    for (uint32_t row = 0; row < count; row++)
+    for (uint32_t row = 1; row <= count; row++)
         add('R', (uint32_t[]){1, row}, 2);
 }
 

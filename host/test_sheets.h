@@ -20,7 +20,7 @@ void digits(char letter, uint32_t kind, const char *fields);
 
 void kinds(uint32_t count, uint32_t width);
 void copy_rules(size_t count, size_t heads); /* rules on kind 1 of width 1 that carry their number over */
-void rows(size_t count);
+void rows(size_t count); /* rows of kind 1 of width 1 with the values 1, 2 and so on */
 void endless_of_609_shapes(void); /* an endless sheet that shows more shapes than are allowed, and nothing before it */
 
 #endif

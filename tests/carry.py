@@ -28,16 +28,16 @@ def printed(text):
     return line("C", len(records), len(fired)) + "".join(line("R", *record) for record in records)
 
 
-def full(rule="", last=1023):
+def full(rule="", last=1024):
     """P(1) -> Q(1), T(1), U(1) with 1,024 rows: 4,096 records but for the further rule."""
-    rows = "".join(line("R", 1, row) for row in range(1023)) + line("R", 1, last)
+    rows = "".join(line("R", 1, row) for row in range(1, 1024)) + line("R", 1, last)
     return sheet("K 1 1; K 2 1; K 3 1; K 4 1; K 5 1; B 1 1; H 2 1; H 3 1; H 4 1;" + rule) + rows
 
 
 CASES = [
     ("empty text", "", result(0, "")),
     ("no rows", sheet("K 1 2; B 1 1 2; H 1 2 3"), result(0, "")),
-    ("repeats and zeros", sheet("K 1 1; R 1 3; R 1 0; R 1 3; R 1 0"), result(0, "R 1 3; R 1 0")),
+    ("repeats", sheet("K 1 1; R 1 3; R 1 4; R 1 3; R 1 4"), result(0, "R 1 3; R 1 4")),
     ("P(1,2) -> P(1,3)", sheet("K 1 2; B 1 1 2; H 1 1 3; R 1 7 8"), result(1, "R 1 7 8; R 1 7 9")),
     ("P(1) -> Q(2,3), Q(3,2)", sheet("K 1 1; K 2 2; B 1 1; H 2 2 3; H 2 3 2; R 1 4; R 1 8"), result(1, "R 1 4; R 1 8; R 2 9 10; R 2 10 9")),
     ("P(1) -> Q(1,2), Q(1,2) -> T(2,1,3), P(1)", sheet("K 1 1; K 2 2; K 3 3; B 1 1; H 2 1 2; B 2 1 2; H 3 2 1 3; H 1 1; R 1 5; R 1 9; R 1 5"),
@@ -52,6 +52,25 @@ CASES = [
     ("4,097 records", full("B 1 1; H 5 2"), line("N", 22, 0)),
     ("22 before 23", full("B 1 1; H 5 2", MOST_NUMBER), line("N", 22, 0)),
     ("21 before 23", sheet("K 1 2; B 1 1 2; H 1 2 3; R 1 7 99999999"), line("N", 21, 0)),
+    # labels that are not given
+    ("zeros are never the same", sheet("K 1 2; B 1 1 1; H 1 2 1; R 1 0 0; R 1 0 0; R 1 7 7"), result(1, "R 1 8 9; R 1 10 11; R 1 7 7; R 1 12 7")),
+    ("equal rows with a 0", sheet("K 1 2; K 2 2; B 1 1 2; H 2 2 3; R 1 0 4; R 1 3 4; R 1 0 4; R 1 3 4"), result(1, "R 1 5 4; R 1 3 4; R 1 6 4; R 2 4 7")),
+    ("repeats and zeros", sheet("K 1 1; R 1 3; R 1 0; R 1 3; R 1 0"), result(0, "R 1 3; R 1 4; R 1 5")),
+    ("zeros alone", sheet("K 1 2; R 1 0 0; R 1 0 0"), result(0, "R 1 1 2; R 1 3 4")),
+    ("a 0 and a fresh number", sheet("K 1 1; K 2 1; B 1 1; H 2 2; R 1 0"), result(1, "R 1 1; R 2 2")),
+    ("by row and then by field", sheet("K 1 3; K 2 1; R 2 0; R 1 0 5 0; R 2 5; R 1 9 0 9"), result(0, "R 2 10; R 1 11 5 12; R 2 5; R 1 9 13 9")),
+    ("a 0 carried to two fields", sheet("K 1 1; K 2 2; K 3 2; B 1 1; H 2 1 1; B 2 1 1; H 3 1 2; R 1 0"), result(2, "R 1 1; R 2 1 1; R 3 1 2")),
+    ("a 0 carried from two rows", sheet("K 1 1; K 2 2; B 1 1; H 2 1 2; R 1 0; R 1 0; R 1 7; R 1 7"), result(3, "R 1 8; R 1 9; R 1 7; R 2 8 10; R 2 9 11; R 2 7 12")),
+    ("endless if zeros were the same", sheet("K 1 2; K 2 2; B 1 1 1; H 2 1 2; B 2 1 2; H 1 2 2; R 1 0 0"), result(0, "R 1 1 2")),
+    ("endless with 7 7", sheet("K 1 2; K 2 2; B 1 1 1; H 2 1 2; B 2 1 2; H 1 2 2; R 1 7 7"), line("N", 21, 0)),
+    ("a 0 is the largest number", sheet("K 1 2; R 1 99999998 0"), result(0, "R 1 99999998 99999999")),
+    ("a 0 is a larger one", sheet("K 1 2; R 1 99999999 0"), line("N", 23, 0)),
+    ("a 0 before the largest number", sheet("K 1 2; R 1 0 99999999"), line("N", 23, 0)),
+    ("fresh after two zeros", sheet("K 1 2; K 2 1; B 1 1 2; H 2 3; R 1 0 99999996; R 1 0 99999996"),
+     result(1, "R 1 99999997 99999996; R 1 99999998 99999996; R 2 99999999")),
+    ("one number more", sheet("K 1 2; K 2 1; B 1 1 2; H 2 3; R 1 0 99999997; R 1 0 99999997"), line("N", 23, 0)),
+    ("4,096 records, one from a 0", full(last=0), printed(full(last=0))),
+    ("4,097 records, two numbers too many", full("B 1 1; H 5 2", MOST_NUMBER).replace(line("R", 1, 1), line("R", 1, 0)), line("N", 22, 0)),
 ]
 
 

@@ -28,7 +28,8 @@ def figures(text, deepest):
     for body, *heads in rules:
         marks = {mark for head in heads for mark in head[1:]}
         counts.append((len(marks - set(body[1:])), len(marks & set(body[1:]))))
-    first = t = len({value for row in rows for value in row[1:]})
+    values = [value for row in rows for value in row[1:]]
+    first = t = len(set(values) - {0}) + values.count(0)
     for _ in range(deepest):
         t = first + sum(fresh * t**carried for fresh, carried in counts)
     return t, sum(t**width for width in widths), sum(t**carried for _, carried in counts)
@@ -52,7 +53,7 @@ def over(text, ran):
 
 def rows(kind, width, count):
     """So many rows of a kind, no two numbers the same."""
-    return "".join("R %d %s;" % (kind, " ".join(str(width * row + field) for field in range(width))) for row in range(count))
+    return "".join("R %d %s;" % (kind, " ".join(str(width * row + field) for field in range(1, width + 1))) for row in range(count))
 
 
 # 255 to the 4, 4 times 255 to the 3, 6 times 255 to the 2 and 4 times 255 are 4,294,967,295.
@@ -99,7 +100,14 @@ CASES = [
     ("a rule that does not fire", sheet("K 1 2; K 2 3; B 1 1 1; H 2 1 1 2; R 1 7 8"), result(2, 12, 2)),
     ("a mark that only B has", sheet("K 1 2; K 2 1; B 1 1 2; H 2 2; R 1 7 8"), result(2, 6, 2)),
     ("equal rows", sheet("K 1 2; R 1 3 4; R 1 3 4; R 1 4 3"), result(2, 4, 0)),
-    ("the value 0", sheet("K 1 1; R 1 0; R 1 3"), result(2, 2, 0)),
+    ("a 0 and a value", sheet("K 1 1; R 1 0; R 1 3"), result(2, 2, 0)),
+    ("zeros and a value", sheet("K 1 2; B 1 1 1; H 1 2 1; R 1 0 0; R 1 0 0; R 1 7 7"), result(10, 100, 10)),
+    ("zeros: no rule fires", sheet("K 1 2; B 1 1 1; H 1 2 1; R 1 0 0; R 1 0 0"), result(4, 16, 4)),
+    ("equal rows with a 0", sheet("K 1 2; R 1 3 0; R 1 3 0; R 1 3 4; R 1 3 4"), result(4, 16, 0)),
+    ("a 0 carried to two fields", sheet("K 1 1; K 2 2; K 3 2; B 1 1; H 2 1 1; B 2 1 1; H 3 1 2; R 1 0"), result(2, 10, 4)),
+    ("1,024 zeros", sheet("K 1 1;" + "R 1 0;" * 1024), result(1024, 1024, 0)),
+    ("255 zeros, 4,294,967,295 records", sheet(kinds(WIDTHS) + "R 2 0 0 0;" * 85), result(255, LARGEST, 0)),
+    ("a 0 more", sheet(kinds(WIDTHS) + "R 2 0 0 0;" * 85 + "R 12 0;"), result(256, None, 0)),
     ("1,024 values in 1,024 rows", sheet("K 1 1;" + rows(1, 1, 1024)), result(1024, 1024, 0)),
     ("as many values as fit", sheet("K 1 6;" + rows(1, 6, 503)), result(3018, None, 0)),
     ("4,294,967,295 records", sheet(kinds(WIDTHS) + VALUES), result(255, LARGEST, 0)),

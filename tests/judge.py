@@ -39,6 +39,7 @@ def rows_of_shapes(count):
 
 
 P1, P2 = line("K", 1, 1), line("K", 1, 2)
+PQ = P2 + line("K", 2, 2) + line("B", 1, 1, 1) + line("H", 2, 1, 2) + line("B", 2, 1, 2) + line("H", 1, 2, 2)
 
 
 def rules_fired(fired, count):
@@ -59,6 +60,11 @@ CASES = [
     ("P(1) -> Q(1,2), Q(1,2) -> P(2)", P1 + line("K", 2, 2) + line("B", 1, 1) + line("H", 2, 1, 2) + line("B", 2, 1, 2) + line("H", 1, 2) + line("R", 1, 5), verdict((2, 0, 2, 2, 100, 1, 0, 2), (1, 1, 1, 2, 1), (2, 1, 2, 1, 0))),
     ("P(1) -> Q(2), Q(1) -> T(1,2)", P1 + line("K", 2, 1) + line("K", 3, 2) + line("B", 1, 1) + line("H", 2, 2) + line("B", 2, 1) + line("H", 3, 1, 2) + line("R", 1, 5), verdict((1, 2, 3, 2, 100, 1, 2, 0), (1, 1, 0, 1, 1), (2, 1, 1, 2, 1))),
     ("S(1) -> Q(1), P(1) -> S(2)", P1 + line("K", 2, 1) + line("K", 3, 1) + line("B", 3, 1) + line("H", 2, 1) + line("B", 1, 1) + line("H", 3, 2) + line("R", 1, 1) + line("R", 2, 3), verdict((1, 1, 3, 2, 100, 1, 1, 0), (2, 1, 0, 1, 1))),
+    ("P(1,1) -> P(2,1), row 0 0", P2 + line("B", 1, 1, 1) + line("H", 1, 2, 1) + line("R", 1, 0, 0), verdict((1, 0, 1, 0, 0, 0, 0, 0))),
+    ("P(1,1) -> P(2,1), rows 0 0, 0 0, 7 7", P2 + line("B", 1, 1, 1) + line("H", 1, 2, 1) + line("R", 1, 0, 0) * 2 + line("R", 1, 7, 7), verdict((1, 1, 2, 1, 100, 3, 1, 0), (1, 1, 1, 1, 1))),
+    ("P(1,1) -> Q(1,2), Q(1,2) -> P(2,2), row P 0 0", PQ + line("R", 1, 0, 0), verdict((1, 0, 1, 0, 0, 0, 0, 0))),
+    ("P(1,1) -> Q(1,2), Q(1,2) -> P(2,2), row P 7 7", PQ + line("R", 1, 7, 7), verdict((2, 0, 2, 2, 100, 1, 0, 2), (1, 1, 1, 2, 1), (2, 1, 2, 1, 0))),
+    ("P(1) -> Q(1,1), Q(1,1) -> T(1,2), row P 0", P1 + line("K", 2, 2) + line("K", 3, 2) + line("B", 1, 1) + line("H", 2, 1, 1) + line("B", 2, 1, 1) + line("H", 3, 1, 2) + line("R", 1, 0), verdict((1, 1, 3, 2, 100, 1, 2, 0), (1, 1, 0, 0, 0), (2, 1, 1, 2, 1))),
     ("one rule of eight fired", rules_fired(1, 8), verdict((1, 0, 1, 1, 12, 0, 0, 0))),
     ("three rules of eight fired", rules_fired(3, 8), verdict((1, 0, 1, 3, 38, 0, 0, 0))),
     ("one rule of 200 fired", rules_fired(1, 200), verdict((1, 0, 1, 1, 0, 0, 0, 0))),

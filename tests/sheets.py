@@ -49,10 +49,25 @@ def made(rule, record, fresh):
     return carried, [(head[0],) + tuple(value[mark] for mark in head[1:]) for head in heads], fresh
 
 
+def numbered(rows):
+    """The rows with the next number after the table's largest in the place of each 0, by row and then by field."""
+    last = max((value for row in rows for value in row[1:]), default=0)
+    new = []
+    for row in rows:
+        values = []
+        for value in row[1:]:
+            if value == 0:
+                value = last = last + 1
+            values.append(value)
+        new.append((row[0],) + tuple(values))
+    return new
+
+
 def run(text, most):
     """The rules carried out, until there are more than `most` records: the records, the fired pairs of rule and carried values, the generation of each value,
     and the next fresh number."""
     _, rules, rows = parts(text)
+    rows = numbered(rows)
     records = list(dict.fromkeys(rows))
     known, fired = set(records), set()
     generation = {value: 0 for row in rows for value in row[1:]}
@@ -107,7 +122,7 @@ def examples(printed):
 
 
 def settling(draw):
-    """A random sheet that settles: rules make fresh numbers for later kinds alone."""
+    """A random sheet that settles: rules make fresh numbers for later kinds alone. Often some of the rows' values are 0, sometimes all."""
     widths = [draw.randint(1, 6) for _ in range(draw.randint(2, 8))]
     text = "".join(line("K", kind, width) for kind, width in enumerate(widths, 1))
     for _ in range(draw.randint(0, 12)):
@@ -121,8 +136,8 @@ def settling(draw):
                 marks.append(draw.randint(1, width if head == body else min(12, top + 1)))
                 top = max(top, marks[-1])
             text += line("H", head, *marks)
-    most = draw.choice([2, 5, 50])
+    most, missing = draw.choice([2, 5, 50]), draw.choice([0, 0, 0, 0.1, 0.3, 1])
     for _ in range(draw.choice([1, 3, 10, 40])):
         kind = draw.randint(1, len(widths))
-        text += line("R", kind, *(draw.randrange(most) for _ in range(widths[kind - 1])))
+        text += line("R", kind, *(0 if draw.random() < missing else draw.randint(1, most) for _ in range(widths[kind - 1])))
     return text

@@ -40,13 +40,43 @@ static int take_options(struct options *options, int argc, char **argv)
     return options->help || options->file != NULL;
 }
 
-/* Whether a record, counted from 0, is a row of the table. */
-static int is_row(size_t record)
+/* What the table's rows are in the result. Lines count from 0. */
+struct table {
+    size_t records;   /* so many, the first ones */
+    size_t not_given; /* so many of their values are 0 in the table */
+    uint32_t largest;
+};
+
+/* Whether a line is a row that stands before as well. */
+static int stands_before(size_t row)
 {
-    for (size_t line = 0; line < sheet.line_count; line++)
-        if (memcmp(records + record * FOLLOWUP_LINE_BYTES, sheet.lines + line * FOLLOWUP_LINE_BYTES, FOLLOWUP_LINE_BYTES) == 0)
+    for (size_t line = 0; line < row; line++)
+        if (memcmp(sheet.lines + row * FOLLOWUP_LINE_BYTES, sheet.lines + line * FOLLOWUP_LINE_BYTES, FOLLOWUP_LINE_BYTES) == 0)
             return 1;
     return 0;
+}
+
+/* Takes a row into account. Equal rows are one record, but for those that hold a 0. */
+static void count_row(struct table *table, size_t line)
+{
+    size_t zeros = 0;
+    for (size_t field = 0; field < width_of(&sheet, followup_line_number(sheet.lines, line, 1)); field++) {
+        uint32_t value = followup_line_number(sheet.lines, line, 2 + field);
+        zeros += value == 0;
+        if (value > table->largest)
+            table->largest = value;
+    }
+    table->records += zeros != 0 || !stands_before(line);
+    table->not_given += zeros;
+}
+
+static struct table count_rows(void)
+{
+    struct table table = {0, 0, 0};
+    for (size_t line = 0; line < sheet.line_count; line++)
+        if (followup_line_number(sheet.lines, line, 0) == 'R')
+            count_row(&table, line);
+    return table;
 }
 
 static void print_records(const char *title, size_t first, size_t end)
@@ -83,12 +113,12 @@ static int carry_text(void)
         followup_carry(sheet.lines, sheet.line_count * FOLLOWUP_LINE_BYTES, records, sizeof records);
     if (said.refusal != FOLLOWUP_GOOD)
         return refuse(said.refusal, said.line);
-    size_t rows = 0;
-    while (rows < said.records && is_row(rows))
-        rows++;
+    struct table table = count_rows();
     printf("%s: carried out. Records: %zu. Firings: %zu.\n", sheet.name, said.records, said.firings);
-    print_records("The table's rows", 0, rows);
-    print_records("Made by the rules", rows, said.records);
+    if (table.not_given != 0)
+        printf("Labels not given in the table: %zu. They are numbered from %u on.\n", table.not_given, (unsigned)table.largest + 1);
+    print_records("The table's rows", 0, table.records);
+    print_records("Made by the rules", table.records, said.records);
     return 0;
 }
 

@@ -1,8 +1,8 @@
-//! Carrying the rules out: the records themselves, from the rows on, each fresh
-//! number the next one after the table's largest.
+//! Carrying the rules out: the records themselves, from the rows on. Each 0 of the
+//! table, and after these each fresh number, is the next one after the table's largest.
 
 use crate::judge::settles;
-use crate::layout::{Line, Refusal, Rule, Sheet, MOST_NUMBER, R};
+use crate::layout::{Line, Refusal, Rule, Sheet, MOST_NUMBER, NOT_GIVEN, R};
 use crate::mix::Mixing;
 use std::collections::HashSet;
 
@@ -110,18 +110,17 @@ struct State {
     records: Vec<Line>,
     known: HashSet<Line, Mixing>,
     fired: HashSet<[u32; 7], Mixing>,
-    /// The next fresh number.
+    /// The next number for a 0 or a fresh mark.
     next: u32,
 }
 
 impl State {
     fn new(sheet: &Sheet) -> State {
-        let values = sheet.rows.iter().flat_map(|row| row.values());
         State {
             records: Vec::new(),
             known: HashSet::default(),
             fired: HashSet::default(),
-            next: 1 + values.copied().max().unwrap_or(0),
+            next: 1 + sheet.given().max().unwrap_or(0),
         }
     }
 
@@ -131,10 +130,7 @@ impl State {
         for (index, rule) in sheet.rules.iter().enumerate() {
             plans[rule.body.kind as usize].push(Plan::new(index, rule));
         }
-        for row in &sheet.rows {
-            let [a, b, c, d, e, f] = row.values;
-            self.add([R, u32::from(row.kind), a, b, c, d, e, f])?;
-        }
+        self.add_rows(sheet)?;
         let mut at = 0;
         while let Some(&record) = self.records.get(at) {
             for plan in &plans[record[1] as usize] {
@@ -143,6 +139,21 @@ impl State {
                 }
             }
             at += 1;
+        }
+        Some(())
+    }
+
+    /// Begins with the rows; their zeros get the first numbers.
+    fn add_rows(&mut self, sheet: &Sheet) -> Option<()> {
+        let first = self.next;
+        self.next += sheet.zeros;
+        let numbered = |value: u32| match value.checked_sub(NOT_GIVEN) {
+            Some(zeros_before) => first + zeros_before,
+            None => value,
+        };
+        for row in &sheet.rows {
+            let [a, b, c, d, e, f] = row.values.map(numbered);
+            self.add([R, u32::from(row.kind), a, b, c, d, e, f])?;
         }
         Some(())
     }

@@ -15,8 +15,8 @@ pub struct Chased {
 pub(crate) type Carried = [u32; 6];
 const NONE: u32 = u32::MAX;
 
-/// The numbers met so far, each with its generation. A table value or a fresh
-/// number stands in records as its place among them.
+/// The numbers met so far, each with its generation. A table value, of which each
+/// 0 is one, or a fresh number stands in records as its place among them.
 pub(crate) struct Values<'a> {
     sheet: &'a Sheet,
     carried: Vec<Vec<u8>>,

@@ -59,15 +59,14 @@ fn marks(rule: &Rule) -> (usize, u32) {
     )
 }
 
-/// The first t: how many different values the rows have.
+/// The first t: how many different values the rows have; each 0 is one.
 fn different_values(sheet: &Sheet) -> u32 {
-    let fields = sheet.rows.iter().map(|row| row.width as usize).sum();
+    let fields: usize = sheet.rows.iter().map(|row| row.width as usize).sum();
+    let room = fields - sheet.zeros as usize;
     let mut values: HashSet<u32, Mixing> =
-        HashSet::with_capacity_and_hasher(fields, Mixing::default());
-    for row in &sheet.rows {
-        values.extend(row.values());
-    }
-    values.len() as u32
+        HashSet::with_capacity_and_hasher(room, Mixing::default());
+    values.extend(sheet.given());
+    values.len() as u32 + sheet.zeros
 }
 
 /// A sum of powers of t: how often it has each power, from 0 to 6.

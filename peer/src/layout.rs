@@ -274,13 +274,13 @@ const fn completions() -> [[u32; 7]; 7] {
     table
 }
 
-/// The number, 1 to 278, of a record's pattern.
+/// The number, 1 to 278, of a record's pattern. A 0 is equal to no other field.
 pub fn pattern(numbers: &[u32]) -> Result<u32, Refusal> {
     if numbers.is_empty() || numbers.len() > 6 {
         return Err(refusal(10, 0));
     }
     let shorter: u32 = (1..numbers.len()).map(|n| COMPLETIONS[n][0]).sum();
-    let (digits, _) = first_appearance(numbers);
+    let (digits, _) = appearance(numbers, |a, b| a == b && a != 0);
     let mut rank = 1 + shorter;
     let mut different = 0;
     for (field, &digit) in digits[..numbers.len()].iter().enumerate() {
@@ -291,12 +291,17 @@ pub fn pattern(numbers: &[u32]) -> Result<u32, Refusal> {
     Ok(rank)
 }
 
-/// Numbers one to six fields by first appearance, from 0; and how many differ.
-pub fn first_appearance(numbers: &[u32]) -> ([u8; 6], u8) {
+/// Numbers the values of one to six fields by first appearance, from 0; and how many differ.
+pub fn first_appearance(values: &[u32]) -> ([u8; 6], u8) {
+    appearance(values, |a, b| a == b)
+}
+
+/// The same, where `same` says which numbers are equal.
+fn appearance(fields: &[u32], same: impl Fn(u32, u32) -> bool) -> ([u8; 6], u8) {
     let mut digits = [0; 6];
     let mut different = 0;
-    for (field, number) in numbers.iter().enumerate() {
-        let earlier = numbers[..field].iter().position(|n| n == number);
+    for (field, &number) in fields.iter().enumerate() {
+        let earlier = fields[..field].iter().position(|&n| same(n, number));
         digits[field] = earlier.map_or(different, |place| digits[place]);
         different += u8::from(earlier.is_none());
     }
@@ -330,7 +335,7 @@ impl Rule {
     }
 }
 
-/// A kind with a value for each field; unused values are 0.
+/// A kind with a value for each field; unused places hold 0.
 #[derive(Clone, Copy, Debug, PartialEq, Eq, Hash)]
 pub struct Record {
     pub kind: u8,
@@ -344,12 +349,19 @@ impl Record {
     }
 }
 
+/// A row's 0 says that no label is given, and is a value of its own: the first of a sheet, by
+/// row and then by field, stands in its record as this number, the second as the next one, and
+/// so on. No column holds such a number.
+pub(crate) const NOT_GIVEN: u32 = MOST_NUMBER + 1;
+
 /// A good sheet, in its order; a kind stands with its width.
 #[derive(Default)]
 pub struct Sheet {
     pub kinds: Vec<(u8, u8)>,
     pub rules: Vec<Rule>,
     pub rows: Vec<Record>,
+    /// How many zeros the rows have.
+    pub zeros: u32,
 }
 
 impl Sheet {
@@ -380,12 +392,32 @@ impl Sheet {
                 rule.heads[rule.count as usize] = form;
                 rule.count += 1;
             }
-            R => self.rows.push(Record {
-                kind,
-                width,
-                values,
-            }),
+            R => {
+                let values = self.told_apart(values, width);
+                self.rows.push(Record {
+                    kind,
+                    width,
+                    values,
+                });
+            }
             _ => {}
         }
+    }
+
+    /// A row's values, each 0 as a number of its own.
+    fn told_apart(&mut self, mut values: [u32; 6], width: u8) -> [u32; 6] {
+        for value in &mut values[..width as usize] {
+            if *value == 0 {
+                *value = NOT_GIVEN + self.zeros;
+                self.zeros += 1;
+            }
+        }
+        values
+    }
+
+    /// The values that rows give as a number.
+    pub(crate) fn given(&self) -> impl Iterator<Item = u32> + '_ {
+        let values = self.rows.iter().flat_map(|row| row.values());
+        values.copied().filter(|&value| value < NOT_GIVEN)
     }
 }

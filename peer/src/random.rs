@@ -9,6 +9,7 @@ pub mod forecasting_series;
 pub mod limits;
 pub mod series;
 pub mod sheets;
+pub mod zeros;
 
 use crate::Line;
 
@@ -85,11 +86,14 @@ const ALL_RECORDS: usize = 131_072;
 
 impl Input {
     pub fn new(random: &mut Random) -> Input {
-        let (style, sheet) = match random.below(16) {
+        let (style, mut sheet) = match random.below(16) {
             0 | 1 => carrying::random(random),
             2 => forecasting::random(random),
             _ => sheets::random(random),
         };
+        if random.chance(30) {
+            zeros::scatter(random, &mut sheet);
+        }
         let mut lines = sheet.lines();
         if random.chance(50) {
             damage::line_too_many(random, &mut lines);
@@ -180,7 +184,7 @@ fn lent_records(random: &mut Random) -> usize {
     }
 }
 
-/// A record for the pattern function: mostly one to six values, few different.
+/// A record for the pattern function: mostly one to six values, few different, often with zeros.
 fn fields(random: &mut Random) -> Vec<u8> {
     let count = if random.chance(90) {
         random.between(1, 6)
@@ -189,7 +193,12 @@ fn fields(random: &mut Random) -> Vec<u8> {
     };
     let different = random.between(1, 7);
     let palette: Vec<u32> = (0..different).map(|_| value(random)).collect();
-    let numbers: Vec<u32> = (0..count).map(|_| random.pick(&palette)).collect();
+    let zeros = random.pick(&[0, 0, 20, 50]);
+    let number = |_| match random.chance(zeros) {
+        true => 0,
+        false => random.pick(&palette),
+    };
+    let numbers: Vec<u32> = (0..count).map(number).collect();
     let mut bytes = bytes_of(&numbers);
     if random.chance(20) {
         let part = random.between(1, 3);

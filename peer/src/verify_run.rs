@@ -1,10 +1,11 @@
-//! Checks the records of a run, whoever gave them, as they stand: which pairs of
-//! rule and carried values they have, which numbers those pairs own, and that
-//! the records are the rows and what these pairs make, no more and no less.
+//! Checks the records of a run, whoever gave them, as they stand: which numbers the
+//! table's zeros have, which pairs of rule and carried values there are, which
+//! numbers those pairs own, and that the records are the rows and what these pairs
+//! make, no more and no less.
 
 use crate::carry::Run;
 use crate::chase::{carried_marks, fires, make};
-use crate::layout::{Line, Record, Rule, Sheet, MOST_NUMBER, R};
+use crate::layout::{Line, Record, Rule, Sheet, MOST_NUMBER, NOT_GIVEN, R};
 use std::collections::{HashMap, HashSet};
 
 const MOST_RECORDS: usize = 4_096;
@@ -22,14 +23,13 @@ pub fn verify_run(numbers: &[u32], run: &Run) -> Result<(), String> {
     for (at, &record) in records.iter().enumerate() {
         require(places.insert(record, at).is_none(), "no record twice")?;
     }
-    let rows = rows_without_repeats(&sheet);
-    require(records.starts_with(&rows), "the rows come first, in order")?;
+    let rows = check_rows(&sheet, &records)?;
     let fresh: Vec<Vec<u8>> = sheet.rules.iter().map(fresh_marks).collect();
     let pairs = pairs(&sheet, &fresh, &records);
     require(run.firings == pairs.len(), "as many firings as pairs")?;
     check_numbers(&sheet, &fresh, &records, &pairs)?;
     let made = made(&sheet, &fresh, &records, &pairs);
-    let mut from_before: HashSet<usize> = (0..rows.len()).collect();
+    let mut from_before: HashSet<usize> = (0..rows).collect();
     for (pair, record) in made {
         let place = places.get(&record);
         let place = *place.ok_or("what a rule makes of a record is there")?;
@@ -62,6 +62,7 @@ fn records(sheet: &Sheet, lines: &[Line]) -> Result<Vec<Record>, String> {
         let (used, unused) = line[2..].split_at(width as usize);
         let in_range = used.iter().all(|&number| number <= MOST_NUMBER);
         require(in_range, "no number over 99,999,999")?;
+        require(!used.contains(&0), "no record of a run holds a 0")?;
         require(unused.iter().all(|&n| n == 0), "unused numbers are 0")?;
         Ok(Record {
             kind: line[1] as u8,
@@ -72,10 +73,27 @@ fn records(sheet: &Sheet, lines: &[Line]) -> Result<Vec<Record>, String> {
     lines.iter().map(record).collect()
 }
 
-fn rows_without_repeats(sheet: &Sheet) -> Vec<Record> {
+/// Holds the rows, equal ones once, against the first records; gives how many they are.
+fn check_rows(sheet: &Sheet, records: &[Record]) -> Result<usize, String> {
     let mut met = HashSet::new();
-    let rows = sheet.rows.iter().copied();
-    rows.filter(|&row| met.insert(row)).collect()
+    let rows = sheet.rows.iter().filter(|&row| met.insert(*row));
+    let mut next = largest(sheet) + 1;
+    let mut count = 0;
+    for row in rows {
+        let record = records.get(count).ok_or("each row is a record")?;
+        let same_form = (row.kind, row.width) == (record.kind, record.width);
+        require(same_form, "the rows come first, in order")?;
+        for (&value, &shown) in row.values().iter().zip(record.values()) {
+            if value < NOT_GIVEN {
+                require(shown == value, "the rows come first, in order")?;
+            } else {
+                require(shown == next, "each 0 has the next number")?;
+                next += 1;
+            }
+        }
+        count += 1;
+    }
+    Ok(count)
 }
 
 /// A rule with values of its carried marks that some record shows.
@@ -87,14 +105,14 @@ struct Pair {
     first: u32,
 }
 
-/// All pairs, by their first record and then by rule. In this order they own
-/// the numbers after the table's largest, one for each fresh mark: no number is
-/// owned twice, and none is a table value.
+/// All pairs, by their first record and then by rule. In this order they own the
+/// numbers after those of the zeros, one for each fresh mark: no number is owned
+/// twice, and none is a table value.
 fn pairs(sheet: &Sheet, fresh: &[Vec<u8>], records: &[Record]) -> Vec<Pair> {
     let carried: Vec<Vec<u8>> = sheet.rules.iter().map(carried_marks).collect();
     let mut met: HashSet<(usize, Vec<u32>)> = HashSet::new();
     let mut pairs = Vec::new();
-    let mut first = largest(sheet) + 1;
+    let mut first = largest(sheet) + sheet.zeros + 1;
     for (at, record) in records.iter().enumerate() {
         for (number, rule) in sheet.rules.iter().enumerate() {
             if !fires(rule, record) {
@@ -117,9 +135,9 @@ fn pairs(sheet: &Sheet, fresh: &[Vec<u8>], records: &[Record]) -> Vec<Pair> {
     pairs
 }
 
+/// The largest number that a row gives.
 fn largest(sheet: &Sheet) -> u32 {
-    let values = sheet.rows.iter().flat_map(|row| row.values());
-    values.copied().max().unwrap_or(0)
+    sheet.given().max().unwrap_or(0)
 }
 
 /// The marks that stand in some H and not in B, rising.
@@ -147,7 +165,8 @@ fn made<'a>(
     })
 }
 
-/// The numbers above the table's largest are those that the pairs own.
+/// The numbers above the table's largest are those of the zeros and those that the
+/// pairs own.
 fn check_numbers(
     sheet: &Sheet,
     fresh: &[Vec<u8>],
@@ -156,11 +175,12 @@ fn check_numbers(
 ) -> Result<(), String> {
     let largest = largest(sheet);
     let owned: usize = pairs.iter().map(|pair| fresh[pair.rule].len()).sum();
+    let owned = owned + sheet.zeros as usize;
     let values = records.iter().flat_map(|record| record.values());
     let above: HashSet<u32> = values.copied().filter(|&value| value > largest).collect();
     let end = above.iter().max().map_or(0, |&last| last - largest);
     require(
         above.len() == owned && end as usize == owned,
-        "the fresh numbers follow the table's largest, none left out",
+        "numbers of zeros, then fresh ones, follow the table's largest, none left out",
     )
 }

@@ -99,12 +99,12 @@ fn zeros_of(row: &[u32]) -> usize
     ensures { λ r. ⌜ (r ≡ zerosIn (now (row .entry))) × (r ≤ length (now (row .entry))) ⌝ }
 {
     let mut r: usize = 0;
-    let mut k: usize = 0;
-    while k < row.len() {
-        if row[k] == 0 {
+    let mut i: usize = 0;
+    while i < row.len() {
+        if row[i] == 0 {
             r += 1;
         }
-        k += 1;
+        i += 1;
     }
     r
 }

@@ -1,5 +1,6 @@
 //! Compares the proved library with the peer on random inputs, whole and damaged:
-//! every answer, and every byte of lent memory and around it.
+//! every answer, and every byte of lent memory and around it. What the library says of a
+//! sheet with zeros in its rows is also compared with what it says with numbers in their place.
 //!
 //!     compare [--seed N] [--count N] [--only N] [--progress] [--statistics]
 //!
@@ -11,8 +12,8 @@
 mod library;
 
 use library::{CarryReply, ForecastReply, JudgeReply, Reply, Span, Step};
-use peer::random::{bytes_of, carrying, forecasting, Input, Random};
-use peer::{Figure, Forecast, Left, Refusal, Run, Verdict};
+use peer::random::{bytes_of, carrying, forecasting, zeros, Input, Random};
+use peer::{Figure, Forecast, Left, Line, Refusal, Run, Verdict};
 use std::panic::{catch_unwind, AssertUnwindSafe};
 use std::process::ExitCode;
 use std::time::Instant;
@@ -26,6 +27,9 @@ const MOST_RECORDS: usize = 4_096;
 
 /// No text has more lines.
 const MOST_LINES: usize = 1_638;
+
+/// The bytes of 4,096 steps.
+const ALL_STEPS: usize = 40_960;
 
 /// Lent memory with guards around it, all random at first.
 struct Lent {
@@ -123,6 +127,20 @@ struct Tally {
     halves: usize,
     chased: usize,
     figures: Vec<Figures>,
+    zeros: Zeros,
+}
+
+/// Of sheets with a 0 in a row.
+#[derive(Default)]
+struct Zeros {
+    judged: [usize; 13],
+    carried: [usize; 24],
+    /// Carried out with 99,999,999 as the largest number.
+    to_the_end: usize,
+    /// How many would have another verdict, or another deepest generation, count of shapes or
+    /// of fired rules, if all zeros were one number.
+    other_verdict: usize,
+    other_figures: usize,
 }
 
 /// Of a judged sheet.
@@ -203,6 +221,88 @@ fn compare_judge(random: &mut Random, input: &Input, tally: &mut Tally) -> Resul
     lent.holds(&steps).map_err(|e| format!("judge: {e}"))
 }
 
+fn lines_of(numbers: &[u32]) -> &[Line] {
+    numbers.as_chunks::<8>().0
+}
+
+/// How many zeros the rows of lent lines hold; 0 where the lines are refused.
+fn zeros_of<T>(numbers: &[u32], answer: &Result<T, Refusal>) -> usize {
+    match answer {
+        Err(refusal) if [8, 12].contains(&refusal.number) => 0,
+        _ => zeros::count(lines_of(numbers)),
+    }
+}
+
+/// A row's 0 is as good as a number that stands nowhere else in the table: the library's figures
+/// are the same with such numbers, and each of its two answers holds of the other sheet too.
+fn compare_zeros(random: &mut Random, input: &Input, tally: &mut Tally) -> Result<(), String> {
+    let numbers = numbers_of(&input.lines);
+    let answer = peer::judge(&numbers, ALL_STEPS / 2);
+    if zeros_of(&numbers, &answer) == 0 {
+        return Ok(());
+    }
+    let lines = lines_of(&numbers);
+    tally.zeros.count_judged(lines, &answer);
+    let given = zeros::all_different(random, lines);
+    let (said, steps) = judged(&numbers)?;
+    let (said_given, steps_given) = judged(given.as_flattened())?;
+    // Row, trail and loop are the library's choice.
+    let figures = |said: &JudgeReply| JudgeReply {
+        row: 0,
+        trail: 0,
+        turns: 0,
+        ..*said
+    };
+    same_given("judge", figures(&said), figures(&said_given))?;
+    if said.refusal == 0 {
+        let not_so = |e| format!("a number for each 0: {e}");
+        compare_answer(given.as_flattened(), &said, &steps).map_err(not_so)?;
+        compare_answer(&numbers, &said_given, &steps_given).map_err(not_so)?;
+    }
+    let forecast = |lines: &[Line]| library::forecast(&bytes_of(lines.as_flattened()));
+    same_given("forecast", forecast(lines), forecast(&given))?;
+    compare_zeros_carried(lines)
+}
+
+/// The library's judging, with the steps that it counts.
+fn judged(numbers: &[u32]) -> Result<(JudgeReply, Vec<u8>), String> {
+    let mut steps = vec![0; ALL_STEPS];
+    let said = library::judge(&bytes_of(numbers), &mut steps);
+    let counted = said.trail.saturating_add(said.turns).saturating_mul(10);
+    if counted > ALL_STEPS {
+        return Err("judge: more steps than lent".to_string());
+    }
+    steps.truncate(counted);
+    Ok((said, steps))
+}
+
+fn same_given<T: PartialEq + fmt::Debug>(what: &str, zeros: T, given: T) -> Result<(), String> {
+    if zeros == given {
+        return Ok(());
+    }
+    Err(format!(
+        "{what}, by the library: zeros {zeros:?}, a number for each {given:?}"
+    ))
+}
+
+/// The library's run with zeros is that with the numbers after the table's largest in their
+/// place; where these do not suffice, it is refused.
+fn compare_zeros_carried(lines: &[Line]) -> Result<(), String> {
+    let carried = |lines: &[Line]| {
+        let mut records = vec![0; 32 * MOST_RECORDS];
+        let said = library::carry(&bytes_of(lines.as_flattened()), &mut records);
+        (said, records)
+    };
+    let (said, records) = carried(lines);
+    let Some(numbered) = zeros::numbered(lines) else {
+        let refused = [11, 21, 22, 23].contains(&said.refusal);
+        return same("carry: refused, since a 0 has no number", refused, true);
+    };
+    let (said_numbered, records_numbered) = carried(&numbered);
+    same_given("carry", said, said_numbered)?;
+    same_given("records", records == records_numbered, true)
+}
+
 /// Carries out by both; the records are also held to what is said of every run.
 fn compare_carry(random: &mut Random, input: &Input, tally: &mut Tally) -> Result<(), String> {
     let mut lent = Lent::new(random, input.lent_records);
@@ -211,6 +311,7 @@ fn compare_carry(random: &mut Random, input: &Input, tally: &mut Tally) -> Resul
     let peer = peer::carry(&numbers, input.lent_records / 4);
     same("carry", library, carry_reply(&peer))?;
     tally.carried[library.refusal as usize] += 1;
+    tally.zeros.count_run(&numbers, &peer);
     let bytes = match &peer {
         Err(_) => Vec::new(),
         Ok(run) => bytes_of(run.records.as_flattened()),
@@ -426,8 +527,53 @@ fn compare(random: &mut Random, input: &Input, tally: &mut Tally) -> Result<(), 
     compare_judge(random, input, tally)?;
     compare_carry(random, input, tally)?;
     compare_forecast(random, input, tally)?;
+    compare_zeros(random, input, tally)?;
     compare_text(random, input)?;
     compare_lines(input)
+}
+
+impl Zeros {
+    fn count_run(&mut self, numbers: &[u32], run: &Result<Run, Refusal>) {
+        if zeros_of(numbers, run) == 0 {
+            return;
+        }
+        match run {
+            Err(refusal) => self.carried[refusal.number as usize] += 1,
+            Ok(run) => {
+                self.carried[0] += 1;
+                let values = run.records.iter().flat_map(|line| &line[2..]);
+                self.to_the_end += usize::from(values.max() == Some(&99_999_999));
+            }
+        }
+    }
+
+    fn count_judged(&mut self, lines: &[Line], answer: &Result<Verdict, Refusal>) {
+        let Ok(verdict) = answer else {
+            self.judged[11] += 1;
+            return;
+        };
+        self.judged[0] += 1;
+        let equal = zeros::all_the_same(lines);
+        let Ok(equal) = peer::judge(equal.as_flattened(), ALL_STEPS / 2) else {
+            self.other_figures += 1;
+            return;
+        };
+        let figures = |verdict: &Verdict| (verdict.deepest, verdict.shapes, verdict.fired);
+        self.other_verdict += usize::from(verdict.endless != equal.endless);
+        self.other_figures += usize::from(figures(verdict) != figures(&equal));
+    }
+
+    fn print(&self) {
+        println!(
+            "zeros in rows: judge {}; carry {}, {} times to 99,999,999; were all zeros one \
+             number: {} other verdicts, {} other figures",
+            counts(&self.judged),
+            counts(&self.carried),
+            self.to_the_end,
+            self.other_verdict,
+            self.other_figures,
+        );
+    }
 }
 
 impl Tally {
@@ -494,6 +640,7 @@ impl Tally {
             "forecast, met exactly by a run to the end: {}",
             of(self.met)
         );
+        self.zeros.print();
     }
 
     /// How many sheets have the figure 0, 1, 2 to 3, 4 to 7 and so on.
@@ -528,7 +675,7 @@ impl fmt::Display for Tally {
         write!(
             f,
             "read {}; write {}; pattern {}; judge {}; {} settle, {} endless, {} chased to the end, \
-             {} shares at a half; \
+             {} shares at a half, {} with zeros in rows; \
              carry {}; {} records by {} firings, {} times exactly 4,096 records; \
              forecast {}; {} with a figure beyond, {} times exactly 4,294,967,295, \
              {} held to a run to the end, {} figures met exactly",
@@ -540,6 +687,7 @@ impl fmt::Display for Tally {
             self.endless,
             self.chased,
             self.halves,
+            self.zeros.judged[0],
             counts(&self.carried),
             self.records,
             self.firings,

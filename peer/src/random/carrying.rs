@@ -1,13 +1,13 @@
 //! Sheets for carrying out: most settle and have many records, some exactly as
 //! many as allowed or one more, some with numbers up to the largest or past it.
 
-use super::sheets::{entry, row, some_kinds, Entry, Kind, Sheet};
+use super::sheets::{entry, row, some_kinds, Kind, Sheet};
+use super::zeros::{self, raise_largest};
 use super::Random;
-use crate::{carry, Line};
+use crate::Line;
 
 const FRESH: u32 = 100;
 const LARGEST: u32 = 99_999_999;
-const ROOM: usize = 8 * 4_096;
 
 type Style = fn(&mut Random) -> Sheet;
 
@@ -68,18 +68,16 @@ pub fn layers(random: &mut Random, kinds: Vec<Kind>, rules: usize, heads: usize)
     sheet
 }
 
-/// So many rows, mostly of the first kinds; sometimes with repeats or zeros.
+/// So many rows, mostly of the first kinds; sometimes with repeats.
 fn add_rows(random: &mut Random, sheet: &mut Sheet, count: usize) {
     let most = random.pick(&[3, 10, 100, 1_000, 0]);
     let first = random.between(1, sheet.kinds.len());
     for _ in 0..count {
         let kind = sheet.kinds[random.below(first)];
-        let mut new = row(random, kind, most);
-        match random.below(20) {
-            0 => new.numbers.fill(0),
-            1 if !sheet.rows.is_empty() => new = again(random, &sheet.rows),
-            _ => {}
-        }
+        let new = match sheet.rows.is_empty() || random.chance(95) {
+            true => row(random, kind, most),
+            false => again(random, &sheet.rows),
+        };
         sheet.rows.push(new);
     }
 }
@@ -184,11 +182,16 @@ fn exactly(random: &mut Random, wanted: usize) -> Sheet {
     }
     let rows = wanted / (1 + followers);
     let step = random.pick(&[1, 1, 4_096, 90_000]);
-    sheet.rows = (0..rows as u32)
+    sheet.rows = (1..=rows as u32)
         .map(|row| entry(start, &[row * step]))
         .collect();
-    let rest = (0..wanted % (1 + followers)).map(|row| entry(other, &[row as u32]));
+    let rest = (1..=wanted % (1 + followers)).map(|row| entry(other, &[row as u32]));
     sheet.rows.extend(rest);
+    // A value that stands once may as well be missing.
+    let missing = random.pick(&[0, 0, 30, 100]);
+    for row in &mut sheet.rows {
+        zeros::put(random, row, missing);
+    }
     if random.chance(50) {
         random.shuffle(&mut sheet.rows);
         random.shuffle(&mut sheet.rules);
@@ -197,48 +200,35 @@ fn exactly(random: &mut Random, wanted: usize) -> Sheet {
     sheet
 }
 
-/// Some rows once more, where there is room.
+/// Some rows once more, where there is room; not those with a 0, which would be further records.
 fn repeat_rows(random: &mut Random, sheet: &mut Sheet) {
+    let mut whole = sheet.rows.clone();
+    whole.retain(|row| !row.numbers.contains(&0));
+    if whole.is_empty() {
+        return;
+    }
     for _ in 0..random.below(20).min(1_024 - sheet.rows.len()) {
-        let row = again(random, &sheet.rows);
-        sheet.rows.push(row);
+        sheet.rows.push(again(random, &whole));
     }
 }
 
-/// A small sheet whose numbers end at the largest one or near it: the table's largest
-/// value is raised so far.
+/// A small sheet, half the time with zeros, whose numbers end at the largest one or near it.
 fn top(random: &mut Random) -> Sheet {
     let count = random.between(2, 6);
     let kinds = some_kinds(random, count, 1, 3);
-    let rules = random.between(1, 12);
+    let rules = random.below(13);
     let mut sheet = layers(random, kinds, rules, 2);
     let rows = any_size(random, 60);
     let most = random.pick(&[3, 10, 100]);
+    let missing = random.pick(&[0, 0, 10, 33]);
     for _ in 0..rows {
         let kind = sheet.kinds[random.below(2)];
-        let new = row(random, kind, most);
+        let mut new = row(random, kind, most);
+        zeros::put(random, &mut new, missing);
         sheet.rows.push(new);
     }
-    let lines = sheet.lines();
-    let Ok(run) = carry(lines.as_flattened(), ROOM) else {
-        return sheet;
-    };
-    let largest = |numbers: &mut dyn Iterator<Item = u32>| numbers.max().unwrap_or(0);
-    let table = largest(&mut numbers(&sheet.rows));
-    let last = largest(&mut run.records.iter().flat_map(|line| line[2..].to_vec()));
-    let needed = last.max(table) - table;
-    let end = LARGEST - 2 + random.pick(&[0, 1, 2, 2, 2, 3, 3, 3, 4]);
-    let raised = (end - needed).min(LARGEST);
-    for value in sheet.rows.iter_mut().flat_map(|row| row.numbers.iter_mut()) {
-        if *value == table {
-            *value = raised;
-        }
-    }
+    raise_largest(random, &mut sheet);
     sheet
-}
-
-fn numbers(rows: &[Entry]) -> impl Iterator<Item = u32> + '_ {
-    rows.iter().flat_map(|row| row.numbers.iter().copied())
 }
 
 /// Past more than one limit at once: endless, too many records, too large a number.
@@ -255,7 +245,7 @@ fn over(random: &mut Random) -> Sheet {
     let rule = vec![entry(last, &[1, 2]), entry(last, &[fresh, FRESH])];
     sheet.rules.push(rule);
     let at = random.below(sheet.rows.len());
-    sheet.rows[at] = entry(last, &[7, random.pick(&[8, LARGEST])]);
+    sheet.rows[at] = entry(last, &[random.pick(&[0, 7]), random.pick(&[8, LARGEST])]);
     sheet
 }
 
@@ -297,29 +287,76 @@ pub fn limits() -> Vec<Limit> {
     add(0, "no lines", "");
     add(0, "no rows", "K 1 2; B 1 1 2; H 1 2 3");
     add(0, "4,096 records", &full("", 99_999_999));
-    add(0, "4,096 records, a rule twice", &full("B 1 1; H 2 1;", 0));
-    add(22, "4,097 records", &full(more, 0));
+    let twice = "B 1 1; H 2 1;";
+    add(0, "4,096 records, a rule twice", &full(twice, 1_024));
+    add(22, "4,097 records", &full(more, 1_024));
     add(22, "22 before 23", &full(more, 99_999_999));
     add(21, "21 before 22 and 23", &full(endless, 99_999_999));
-    add(0, "the largest number", &fresh("R 1 99999995; R 1 0"));
-    add(23, "one above it", &fresh("R 1 99999996; R 1 0"));
+    add(0, "the largest number", &fresh("R 1 99999995; R 1 1"));
+    add(23, "one above it", &fresh("R 1 99999996; R 1 1"));
     add(
         23,
         "far above it",
-        &fresh("R 1 99999999; R 1 0; R 1 7; R 1 7"),
+        &fresh("R 1 99999999; R 1 1; R 1 7; R 1 7"),
     );
     add(21, "endless", "K 1 2; B 1 1 2; H 1 2 3; R 1 7 99999999");
     let shapes = format!("{wide} {MIXING} B 4 1 2; H 4 2 3; R 1 1 2 3 4 5 6; R 4 7 99999999");
     add(11, "11 before 21 and 23", &shapes);
     add(8, "a wrong line", "K 1 1; B 1 1; H 1 1; R 1 100000000");
-    add(0, "repeats and zeros", &fresh("R 1 0; R 1 3; R 1 0; R 1 3"));
+    add(0, "repeats", &fresh("R 1 1; R 1 3; R 1 1; R 1 3"));
     let rule = "B 1 1; H 2 2;";
     let twice = format!("K 1 1; K 2 1; {rule} {rule} R 1 5; R 1 6");
     add(0, "a rule that carries nothing, twice", &twice);
     let marks = "B 1 1 2 3 4 5 6; H 2 7 8 9 10 11 12; H 2 12 11 10 9 8 7; H 2 6 12 5 11 4 10;";
     let rows = "H 2 1 2 3 4 5 6; R 1 1 2 3 4 5 6; R 1 6 5 4 3 2 1; R 1 0 0 0 0 0 0";
     add(0, "twelve marks", &format!("K 1 6; K 2 6; {marks} {rows}"));
+    all.extend(limits_of_zeros());
     all
+}
+
+/// The limits again where labels are not given.
+fn limits_of_zeros() -> Vec<Limit> {
+    let fresh = |rows: &str| format!("K 1 1; K 2 2; B 1 1; H 2 2 1; H 2 2 3; {rows}");
+    let pair = |row: &str| format!("K 1 2; R 1 {row}");
+    let full = |rule: &str, last: u32| {
+        let rows = "R 1 0;".repeat(1_023);
+        format!("{FULL} {rule} {rows} R 1 {last}")
+    };
+    let six = |rows: usize, first: u32| {
+        let rows = "R 1 0 0 0 0 0 0;".repeat(rows);
+        format!("K 1 6; R 1 {first} 1 1 1 1 1; {rows}")
+    };
+    let more = "B 1 1; H 5 2;";
+    let endless = "B 1 1; H 6 1 2; B 6 1 2; H 6 2 3;";
+    let equal = "K 1 2; K 2 2; B 1 1 1; H 2 1 2; B 2 1 2; H 1 2 2;";
+    let all = [
+        (0, "zeros alone", "K 1 2; R 1 0 0; R 1 0 0".to_string()),
+        (0, "a 0 is the largest number", pair("99999998 0")),
+        (23, "a 0 is above it", pair("99999999 0")),
+        (23, "a 0 before the largest number", pair("0 99999999")),
+        (0, "repeats and zeros", fresh("R 1 0; R 1 3; R 1 0; R 1 3")),
+        (0, "fresh after a 0", fresh("R 1 99999994; R 1 0")),
+        (23, "one above it", fresh("R 1 99999995; R 1 0")),
+        (0, "two zeros", fresh("R 1 99999991; R 1 0; R 1 0")),
+        (23, "one above it", fresh("R 1 99999992; R 1 0; R 1 0")),
+        (0, "4,096 records", full("", 99_998_976)),
+        (23, "the same, one number more", full("", 99_998_977)),
+        (22, "4,097 records", full(more, 1)),
+        (22, "22 before 23", full(more, 99_999_999)),
+        (21, "21 before 22 and 23", full(endless, 99_999_999)),
+        (0, "6,138 zeros", six(1_023, 99_993_861)),
+        (23, "one above it", six(1_023, 99_993_862)),
+        (0, "endless if zeros were equal", format!("{equal} R 1 0 0")),
+        (21, "endless", format!("{equal} R 1 0 0; R 1 7 7")),
+        (0, "not given once", format!("{equal} R 1 7 0; R 1 0 7")),
+        (21, "a 0 carried to two fields", format!("{equal} R 2 7 0")),
+    ];
+    let limit = |(refusal, name, form): (_, _, String)| Limit {
+        name,
+        lines: lines_of(&form),
+        refusal,
+    };
+    all.map(limit).into_iter().collect()
 }
 
 /// Lent lines of a sheet written like "K 1 2; B 1 1 2; H 1 2 3; R 1 7 8".

@@ -1,7 +1,7 @@
 //! Sheets for timing the carrying out: families of one size each, in three orders.
 
 use super::carrying::layers;
-use super::series::{fresh_chain, End, Family, Order};
+use super::series::{fresh_chain, leave_out_a_third, End, Family, Order};
 use super::sheets::{entry, row, some_kinds, Kind, Sheet};
 use super::Random;
 use crate::carry;
@@ -34,6 +34,14 @@ pub fn families(random: &mut Random) -> Vec<Family> {
         add(name, sheets);
     }
     add("the examples", examples());
+    let mut pairs = followed_pairs(&(100..132).collect::<Vec<u32>>());
+    leave_out_a_third(&mut pairs);
+    let mut rows = followed((0..1_024).map(|row| 7 + 3 * row));
+    leave_out_a_third(&mut rows);
+    add(
+        "1,024 rows, a third of the values not given",
+        vec![pairs, rows],
+    );
     all
 }
 

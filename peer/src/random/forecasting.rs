@@ -4,7 +4,7 @@
 use super::carrying::{any_size, layers, lines_of};
 use super::series::{fresh_chain, End};
 use super::sheets::{any_rule, entry, mixed, row, some_kinds, states, Entry, Kind, Mood, Sheet};
-use super::Random;
+use super::{zeros, Random};
 use crate::{Figure, Line};
 
 const FRESH: u32 = 100;
@@ -36,9 +36,9 @@ pub fn random(random: &mut Random) -> (&'static str, Sheet) {
     unreachable!("the weights add up to the total")
 }
 
-/// Rows of a kind that hold so many different values, multiples of a step.
+/// Rows of a kind that hold so many different values, multiples of a step, and no 0.
 pub fn rows_of(kind: Kind, values: usize, step: u32) -> Vec<Entry> {
-    let values: Vec<u32> = (0..values as u32).map(|value| value * step).collect();
+    let values: Vec<u32> = (1..=values as u32).map(|value| value * step).collect();
     let row = |part: &[u32]| {
         let mut numbers = part.to_vec();
         numbers.resize(kind.width, part[0]);
@@ -125,7 +125,23 @@ fn at_limit(random: &mut Random, make: fn(&mut Random, u64) -> Option<Sheet>) ->
         if let Some(mut sheet) = make(random, wanted) {
             random.shuffle(&mut sheet.rules);
             random.shuffle(&mut sheet.rows);
+            if random.chance(40) {
+                leave_out(random, &mut sheet);
+            }
             return sheet;
+        }
+    }
+}
+
+/// Makes some or all values 0 that stand once in their row and so once in the table: each 0 is
+/// a value too.
+fn leave_out(random: &mut Random, sheet: &mut Sheet) {
+    let percent = random.pick(&[10, 33, 100]);
+    for row in &mut sheet.rows {
+        let mut values = row.numbers.clone();
+        values.sort_unstable();
+        if values.windows(2).all(|pair| pair[0] != pair[1]) {
+            zeros::put(random, row, percent);
         }
     }
 }
@@ -277,6 +293,15 @@ pub fn limits() -> Vec<Limit> {
     add("6,144 values", rows.clone(), [Some(6_144), None, Some(0)]);
     rows.rules = vec![rule(wide(1), wide(1), 6, 0), rule(wide(1), wide(1), 2, 0)];
     add("6,144 values, two rules", rows, [Some(6_144), None, None]);
+    let mut missing = fifteen(0);
+    missing.rows.iter_mut().for_each(|row| row.numbers.fill(0));
+    add("255 zeros", missing, [Some(255), most, Some(0)]);
+    let mut missing = fifteen(0);
+    missing.rows.push(entry(missing.kinds[14], &[0]));
+    add("255 values and a 0", missing, [Some(256), None, Some(0)]);
+    let mut missing = Sheet::new(vec![wide(1)]);
+    missing.rows = vec![entry(wide(1), &[0; 6]); MOST_ROWS];
+    add("6,144 zeros", missing, [Some(6_144), None, Some(0)]);
     let chain = fresh_chain(&mut random, 64, false, End::Stops);
     add("63 generations", chain, [None, None, None]);
     let mut deep = std::iter::repeat_with(|| states(&mut random));
@@ -303,7 +328,23 @@ fn written_limits() -> Vec<Limit> {
     let all = [
         ("no lines", "", figures(0, 0, 0)),
         ("kinds alone", "K 1 6; K 64 6", figures(0, 0, 0)),
-        ("a row alone", "K 1 2; R 1 0 0", figures(1, 1, 0)),
+        ("a row alone", "K 1 2; R 1 7 7", figures(1, 1, 0)),
+        ("a row of zeros alone", "K 1 2; R 1 0 0", figures(2, 4, 0)),
+        (
+            "zeros and a value",
+            "K 1 2; B 1 1 1; H 1 2 1; R 1 0 0; R 1 0 0; R 1 7 7",
+            figures(10, 100, 10),
+        ),
+        (
+            "zeros alone: no rule fires",
+            "K 1 2; B 1 1 1; H 1 2 1; R 1 0 0; R 1 0 0",
+            figures(4, 16, 4),
+        ),
+        (
+            "a 0 carried to two fields",
+            "K 1 1; K 2 2; K 3 2; B 1 1; H 2 1 1; B 2 1 1; H 3 1 2; R 1 0",
+            figures(2, 10, 4),
+        ),
         ("no rows", "K 1 2; B 1 1 2; H 1 2 3", figures(0, 0, 0)),
         (
             "no rows, a rule that carries nothing",

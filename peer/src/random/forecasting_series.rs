@@ -3,7 +3,7 @@
 
 use super::carrying_series::colliding;
 use super::forecasting::rows_of;
-use super::series::Family;
+use super::series::{leave_out_a_third, Family};
 use super::sheets::{entry, Kind, Sheet};
 
 const WIDE: Kind = Kind { kind: 1, width: 6 };
@@ -15,6 +15,7 @@ pub fn families() -> Vec<Family> {
         let sheets = vec![sheet];
         all.push(Family { name, sheets });
     };
+    // The first is 0, a value like the others where it stands once.
     let different = |step: u32| (0..6_144u32).map(move |value| value * step);
     add("6,144 different values in 1,024 rows", table(different(7)));
     add("the same, without a rule", bare(table(different(7))));
@@ -27,6 +28,9 @@ pub fn families() -> Vec<Family> {
         "1,024 rows, values that one multiplier puts together",
         table(together),
     );
+    let mut missing = table(different(7));
+    leave_out_a_third(&mut missing);
+    add("1,024 rows, a third of the values not given", missing);
     all
 }
 

@@ -3,7 +3,7 @@
 use super::sheets::{
     any_rule, entry, few, mixed, row, some_kinds, text_of, Entry, Kind, Mood, Sheet,
 };
-use super::Random;
+use super::{zeros, Random};
 
 /// Kinds whose rules make any two fields equal, so that all patterns are reached from one row.
 pub fn merging(random: &mut Random) -> Sheet {
@@ -71,7 +71,7 @@ pub fn patterns(width: usize) -> Vec<Vec<u32>> {
     found
 }
 
-/// Rows of so many different shapes, often about 512.
+/// Rows of so many different shapes, often about 512; half the time with zeros.
 pub fn shapes(random: &mut Random) -> Sheet {
     let wanted = random.pick(&[100, 400, 500, 511, 512, 512, 513, 513, 514, 520]);
     let high = random.between(4, 6);
@@ -82,6 +82,10 @@ pub fn shapes(random: &mut Random) -> Sheet {
     let shift = random.pick(&[0, 1, 5, 99_999_900]);
     for number in all.iter_mut().flat_map(|row| row.numbers.iter_mut()) {
         *number = (*number * 3) % 7 + shift;
+    }
+    let missing = random.pick(&[0, 0, 30, 100]);
+    for row in &mut all {
+        zeros::put_alone(random, row, missing);
     }
     let mut sheet = Sheet::new(kinds);
     sheet.rows = all;

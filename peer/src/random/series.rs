@@ -2,7 +2,7 @@
 
 use super::limits::{add_merges, patterns};
 use super::sheets::{self, any_rule, entry, row, some_kinds, Kind, Mood, Sheet};
-use super::Random;
+use super::{zeros, Random};
 
 pub struct Family {
     pub name: &'static str,
@@ -31,7 +31,18 @@ pub fn families(random: &mut Random) -> Vec<Family> {
     for (name, order, end) in LAYERS {
         add(name, vec![layers(random, 8, 256, order, end)]);
     }
+    let mut sheet = most_rows(random);
+    leave_out_a_third(&mut sheet);
+    add("1,024 rows, a third of the values not given", vec![sheet]);
     all
+}
+
+/// Makes a third of the rows' values 0, the same ones each time.
+pub fn leave_out_a_third(sheet: &mut Sheet) {
+    let mut random = Random::new(3);
+    for row in &mut sheet.rows {
+        zeros::put(&mut random, row, 33);
+    }
 }
 
 const LAYERS: [(&str, Order, End); 4] = [

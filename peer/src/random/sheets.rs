@@ -1,6 +1,6 @@
 //! Random sheets in many styles and sizes, some at or just past the limits.
 
-use super::{limits, Random};
+use super::{limits, zeros, Random};
 use crate::Line;
 
 /// A line with a kind: a record, or a B or H line whose marks have any labels.
@@ -112,13 +112,14 @@ pub fn text_of(lines: &[Line]) -> Vec<u8> {
 type Style = fn(&mut Random) -> Sheet;
 
 /// How often each style is taken, its name and its maker.
-const STYLES: [(usize, &str, Style); 14] = [
+const STYLES: [(usize, &str, Style); 15] = [
     (1, "empty", |_| Sheet::new(Vec::new())),
     (18, "few", few),
     (22, "knot", knot),
     (16, "some", some),
     (3, "many", many),
     (14, "patterned", patterned),
+    (6, "hinge", hinge),
     (8, "chain", chain),
     (6, "rotor", rotor),
     (3, "ladder", ladder),
@@ -229,10 +230,8 @@ fn head(random: &mut Random, mood: &Mood, rule: &[Entry], kind: Kind) -> Entry {
 
 /// A row of a kind, with values from 1 to `most` or, where that is 0, any.
 pub fn row(random: &mut Random, kind: Kind, most: usize) -> Entry {
-    let value = |_| match most {
-        0 => random.below(100_000_000) as u32,
-        _ => random.below(most) as u32,
-    };
+    let most = if most == 0 { 99_999_999 } else { most };
+    let value = |_| random.between(1, most) as u32;
     let numbers: Vec<u32> = (0..kind.width).map(value).collect();
     entry(kind, &numbers)
 }
@@ -314,6 +313,38 @@ fn patterned(random: &mut Random) -> Sheet {
     }
     let rows = random.between(1, 5);
     add_rows(random, &mut sheet, rows);
+    sheet
+}
+
+/// Rows of one kind, where equal fields, often zeros, decide whether the rules of the others
+/// ever fire.
+fn hinge(random: &mut Random) -> Sheet {
+    let count = random.between(2, 4);
+    let kinds = some_kinds(random, count, 2, 4);
+    let (start, others) = (kinds[0], &kinds[1..]);
+    let mood = Mood {
+        carry: random.pick(&[30, 50, 70, 85]),
+        forward: 0,
+        ..Mood::new(random)
+    };
+    let mut rules = Vec::new();
+    for _ in 0..random.between(1, 2) {
+        let mut rule = vec![body(random, start, 60)];
+        let to = random.pick(others);
+        rule.push(head(random, &mood, &rule, to));
+        rules.push(rule);
+    }
+    for _ in 0..random.between(2, 6) {
+        rules.push(any_rule(random, &mood, others));
+    }
+    let mut sheet = Sheet::new(kinds);
+    sheet.rules = rules;
+    let missing = random.pick(&[0, 30, 60, 100]);
+    for _ in 0..random.between(1, 3) {
+        let mut row = row(random, start, 2);
+        zeros::put(random, &mut row, missing);
+        sheet.rows.push(row);
+    }
     sheet
 }
 

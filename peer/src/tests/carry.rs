@@ -47,9 +47,73 @@ fn computed_examples() {
 fn nothing_and_no_rules() {
     check("", "", 0);
     check("K 1 2; B 1 1 2; H 1 2 3", "", 0);
-    check("K 1 1; R 1 3; R 1 0; R 1 3; R 1 0", "R 1 3; R 1 0", 0);
-    // The largest value of an empty table is 0, and 0 is a value like any other.
-    check("K 1 1; K 2 1; B 1 1; H 2 2; R 1 0", "R 1 0; R 2 1", 1);
+    check("K 1 1; R 1 3; R 1 4; R 1 3; R 1 4", "R 1 3; R 1 4", 0);
+}
+
+#[test]
+fn zeros_are_numbered_first() {
+    check(
+        "K 1 2; B 1 1 1; H 1 2 1; R 1 0 0; R 1 0 0; R 1 7 7",
+        "R 1 8 9; R 1 10 11; R 1 7 7; R 1 12 7",
+        1,
+    );
+    check(
+        "K 1 2; K 2 2; B 1 1 2; H 2 2 3; R 1 0 4; R 1 3 4; R 1 0 4; R 1 3 4",
+        "R 1 5 4; R 1 3 4; R 1 6 4; R 2 4 7",
+        1,
+    );
+    // Of equal rows, those that hold a 0 stay; the others are one record.
+    let rows = "R 1 3; R 1 0; R 1 3; R 1 0";
+    check(&format!("K 1 1; {rows}"), "R 1 3; R 1 4; R 1 5", 0);
+    // A table of zeros alone numbers from 1.
+    check("K 1 2; R 1 0 0; R 1 0 0", "R 1 1 2; R 1 3 4", 0);
+    check("K 1 1; K 2 1; B 1 1; H 2 2; R 1 0", "R 1 1; R 2 2", 1);
+    // By row and then by field, whatever the kinds; the largest may come last.
+    check(
+        "K 1 3; K 2 1; R 2 0; R 1 0 5 0; R 2 5; R 1 9 0 9",
+        "R 2 10; R 1 11 5 12; R 2 5; R 1 9 13 9",
+        0,
+    );
+}
+
+#[test]
+fn zeros_are_never_the_same_but_a_carried_one_is() {
+    // Two zeros of a row do not fit equal marks, nor do zeros of two rows carry the same value.
+    let sheet = "K 1 2; K 2 2; B 1 1 1; H 2 1 2; R 1 0 0; R 1 7 0; R 1 0 7";
+    check(sheet, "R 1 8 9; R 1 7 10; R 1 11 7", 0);
+    let sheet = "K 1 1; K 2 2; B 1 1; H 2 1 2; R 1 0; R 1 0; R 1 7; R 1 7";
+    let made = "R 2 8 10; R 2 9 11; R 2 7 12";
+    check(sheet, &format!("R 1 8; R 1 9; R 1 7; {made}"), 3);
+    // A 0 that a rule carries to two fields fits equal marks there.
+    let sheet = "K 1 1; K 2 2; K 3 2; B 1 1; H 2 1 1; B 2 1 1; H 3 1 2; R 1 0";
+    check(sheet, "R 1 1; R 2 1 1; R 3 1 2", 2);
+    // A rule that does not carry the 0 fires once for both rows.
+    let sheet = "K 1 2; K 2 2; B 1 1 2; H 2 2 3; R 1 0 7; R 1 0 7";
+    check(sheet, "R 1 8 7; R 1 9 7; R 2 7 10", 1);
+}
+
+#[test]
+fn numbers_of_zeros_up_to_99999999() {
+    let pair = |row: &str| format!("K 1 2; R 1 {row}");
+    check(&pair("99999998 0"), "R 1 99999998 99999999", 0);
+    check(&pair("0 99999998"), "R 1 99999999 99999998", 0);
+    assert_eq!(refusal(&pair("99999999 0")), (23, 0));
+    assert_eq!(refusal(&pair("0 99999999")), (23, 0));
+    // Fresh numbers come after those of the zeros.
+    let sheet = |row| format!("K 1 2; K 2 1; B 1 1 2; H 2 3; R 1 0 {row}; R 1 0 {row}");
+    let made = "R 1 99999997 99999996; R 1 99999998 99999996; R 2 99999999";
+    check(&sheet(99_999_996), made, 1);
+    assert_eq!(refusal(&sheet(99_999_997)), (23, 0));
+    // 22 is before 23, and 21 before both.
+    let zeros = |more: &str| full(more).replace("R 1 1;", "R 1 0;");
+    let largest = |sheet: String| sheet.replace("R 1 1023;", "R 1 99999999;");
+    assert_eq!(refusal(&largest(zeros(""))), (23, 0));
+    assert_eq!(refusal(&largest(zeros("B 1 1; H 5 2;"))), (22, 0));
+    let endless = "B 1 1; H 6 1 2; B 6 1 2; H 6 2 3;";
+    let kinds = |sheet: String| sheet.replace("K 5 1;", "K 5 1; K 6 2;");
+    assert_eq!(refusal(&kinds(largest(zeros(endless)))), (21, 0));
+    let all = full("").replace("R 1 1;", "R 1 0;");
+    assert_eq!(run(&all).records.len(), 4_096);
 }
 
 #[test]
@@ -93,7 +157,7 @@ fn six_fields_four_heads_twelve_marks() {
 
 /// 1,024 rows of P with P(1) → Q(1), T(1), U(1), and further lines before the rows.
 fn full(more: &str) -> String {
-    let rows: String = (0..1_024).map(|row| format!("R 1 {row};")).collect();
+    let rows: String = (1..=1_024).map(|row| format!("R 1 {row};")).collect();
     format!("K 1 1; K 2 1; K 3 1; K 4 1; K 5 1; B 1 1; H 2 1; H 3 1; H 4 1; {more} {rows}")
 }
 
@@ -134,13 +198,13 @@ fn refusals_in_order() {
     assert_eq!(refusal(wide), (11, 0));
     assert_eq!(refusal(endless), (21, 0));
     // An endless sheet whose other rules make far over 4,096 records.
-    let rows: String = (0..1_000).map(|row| format!("R 2 {row};")).collect();
+    let rows: String = (1..=1_000).map(|row| format!("R 2 {row};")).collect();
     let made = "B 2 1; H 2 1; H 3 1 2; B 2 1; H 3 1 2; H 3 1 3; H 3 1 4; H 3 1 5;";
     let both = |rule: &str| format!("K 1 2; K 2 1; K 3 2; {rule} {made} R 1 7 99999999; {rows}");
     assert_eq!(refusal(&both("B 1 1 2; H 1 2 3;")), (21, 0));
     assert_eq!(refusal(&both("B 1 1 2; H 1 1 3;")), (22, 0));
     assert_eq!(
-        refusal(&full("B 1 1; H 5 2;").replace("R 1 1023;", "R 1 99999999;")),
+        refusal(&full("B 1 1; H 5 2;").replace("R 1 1024;", "R 1 99999999;")),
         (22, 0)
     );
 }
@@ -153,6 +217,8 @@ fn damaged_results_are_rejected() {
         "K 1 1; K 2 2; B 1 1; H 2 2 3; H 2 3 2; R 1 4; R 1 8",
         "K 1 1; K 2 2; K 3 3; B 1 1; H 2 1 2; B 2 1 2; H 3 2 1 3; H 1 1; R 1 5; R 1 9; R 1 5",
         "K 1 1; K 2 1; B 1 1; H 2 2; B 1 1; H 2 2; R 1 5; R 1 6",
+        "K 1 2; B 1 1 1; H 1 2 1; R 1 0 0; R 1 0 0; R 1 7 7",
+        "K 1 2; K 2 2; B 1 1 2; H 2 2 3; R 1 0 4; R 1 3 4; R 1 0 4; R 1 3 4",
     ];
     for sheet in sheets {
         let good = run(sheet);

@@ -4,6 +4,7 @@ use crate::random::carrying;
 use crate::random::carrying_series::{colliding, families, in_order};
 use crate::random::series::{Family, Order};
 use crate::random::sheets::Sheet;
+use crate::random::zeros::count;
 use crate::random::Random;
 use crate::{carry, verify_run, Refusal, Run};
 
@@ -24,22 +25,28 @@ fn counts(sheet: &Sheet) -> (usize, usize) {
 fn random_sheets_meet_every_limit() {
     let mut random = Random::new(3);
     let mut met = [0; 24];
-    let (mut full, mut large, mut ends) = (0, 0, 0);
+    let mut with_zeros = [0; 24];
+    let (mut full, mut large) = (0, 0);
+    // Without zeros and with them.
+    let mut ends = [0; 2];
     for _ in 0..2_000 {
         let (_, sheet) = carrying::random(&mut random);
-        match carried(&sheet) {
-            Err(refusal) => met[refusal.number as usize] += 1,
-            Ok(run) => {
-                met[0] += 1;
-                full += usize::from(run.records.len() == 4_096);
-                large += usize::from(run.records.len() >= 1_000);
-                let numbers = run.records.iter().flat_map(|line| &line[2..]);
-                ends += usize::from(numbers.max() == Some(&99_999_999));
-            }
+        let result = carried(&sheet);
+        let refusal = result.as_ref().map_or_else(|refusal| refusal.number, |_| 0);
+        met[refusal as usize] += 1;
+        let zeros = usize::from(count(&sheet.lines()) > 0);
+        with_zeros[refusal as usize] += zeros;
+        if let Ok(run) = result {
+            full += usize::from(run.records.len() == 4_096);
+            large += usize::from(run.records.len() >= 1_000);
+            let numbers = run.records.iter().flat_map(|line| &line[2..]);
+            ends[zeros] += usize::from(numbers.max() == Some(&99_999_999));
         }
     }
-    assert!(met[0] > 1_000 && full > 50 && large > 200 && ends > 20);
+    assert!(met[0] > 1_000 && full > 50 && large > 200);
+    assert!(ends.iter().all(|&ends| ends > 20), "{ends:?}");
     assert!(met[21] > 10 && met[22] > 100 && met[23] > 20, "{met:?}");
+    assert!(with_zeros[22] > 20 && with_zeros[23] > 20, "{with_zeros:?}");
     assert_eq!(met.iter().sum::<usize>(), 2_000);
     let known = met[0] + met[11] + met[21] + met[22] + met[23];
     assert_eq!(known, 2_000, "each is a sheet: {met:?}");
@@ -62,7 +69,7 @@ fn limits_are_refused_as_they_say() {
 fn every_family_is_carried_out_in_every_order() {
     let mut random = Random::new(7);
     let all = families(&mut random);
-    assert_eq!(all.len(), 10);
+    assert_eq!(all.len(), 11);
     for Family { name, sheets } in all {
         for sheet in sheets {
             let along = counts(&sheet);
@@ -90,6 +97,11 @@ fn families_have_the_records_that_they_promise() {
     assert_eq!(of(7), [(3 * 1_024 + 32, 1_024)]);
     assert_eq!(of(8), [(3 * 1_024 + 32, 1_024), (4_096, 1_024)]);
     assert_eq!(of(9).len(), 3);
+    let missing = of(10);
+    let zeros = |at: usize| count(&all[10].sheets[at].lines());
+    // A third of 2,048 values and of 1,024.
+    assert!((600..=760).contains(&zeros(0)) && (300..=380).contains(&zeros(1)));
+    assert!(missing[0].0 > 3 * 1_024 + 200 && missing[1] == (4_096, 1_024));
 }
 
 #[test]

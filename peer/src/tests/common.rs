@@ -50,19 +50,37 @@ impl Random {
         ((self.0 >> 32) as u32) % bound
     }
 
-    fn line(&mut self, letter: u8, widths: &[u32], top: &mut u32) -> [u32; 8] {
+    /// A line of a random kind; its numbers are drawn one after the other.
+    fn line(
+        &mut self,
+        letter: u8,
+        widths: &[u32],
+        mut draw: impl FnMut(&mut Random) -> u32,
+    ) -> [u32; 8] {
         let kind = self.below(widths.len() as u32);
         let mut line = [0; 8];
         line[0] = u32::from(letter);
         line[1] = kind + 1;
         for number in &mut line[2..2 + widths[kind as usize] as usize] {
-            *number = match letter {
-                b'R' => self.below(3),
-                _ => 1 + self.below((*top + 1).min(12)),
-            };
-            *top = (*top).max(*number);
+            *number = draw(self);
         }
         line
+    }
+
+    /// A B or H line after one whose largest mark is `top`.
+    fn marks(&mut self, letter: u8, widths: &[u32], top: &mut u32) -> [u32; 8] {
+        self.line(letter, widths, |random| {
+            let mark = 1 + random.below((*top + 1).min(12));
+            *top = (*top).max(mark);
+            mark
+        })
+    }
+
+    /// So many rows; a third of the values is 0, or none.
+    fn rows(&mut self, widths: &[u32], count: u32) -> Vec<u32> {
+        let least = self.below(2);
+        let row = |_| self.line(b'R', widths, |random| least + random.below(3));
+        (0..count).flat_map(row).collect()
     }
 
     pub fn sheet(&mut self) -> Vec<u32> {
@@ -75,14 +93,13 @@ impl Random {
         }
         for _ in 0..self.below(7) {
             let mut top = 0;
-            numbers.extend(self.line(b'B', &widths, &mut top));
+            numbers.extend(self.marks(b'B', &widths, &mut top));
             for _ in 0..1 + self.below(3) {
-                numbers.extend(self.line(b'H', &widths, &mut top));
+                numbers.extend(self.marks(b'H', &widths, &mut top));
             }
         }
-        for _ in 0..self.below(4) {
-            numbers.extend(self.line(b'R', &widths, &mut 0));
-        }
+        let rows = self.below(4);
+        numbers.extend(self.rows(&widths, rows));
         numbers
     }
 
@@ -104,7 +121,7 @@ impl Random {
             numbers.extend(line);
             for _ in 0..1 + self.below(4) {
                 let before = top;
-                let mut head = self.line(b'H', &widths, &mut top);
+                let mut head = self.marks(b'H', &widths, &mut top);
                 if head[1] <= line[1] {
                     top = before;
                     head = line;
@@ -115,9 +132,8 @@ impl Random {
                 numbers.extend(head);
             }
         }
-        for _ in 0..1 + self.below(3) {
-            numbers.extend(self.line(b'R', &widths, &mut 0));
-        }
+        let rows = 1 + self.below(3);
+        numbers.extend(self.rows(&widths, rows));
         numbers
     }
 }

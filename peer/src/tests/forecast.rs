@@ -33,13 +33,28 @@ fn computed_examples() {
 fn nothing_and_no_rows() {
     check("", [0, 0, 0]);
     check("K 1 6; K 2 1", [0, 0, 0]);
-    check("K 1 2; R 1 0 0; R 1 0 0", [1, 1, 0]);
+    check("K 1 2; R 1 7 7; R 1 7 7", [1, 1, 0]);
     // The power 0 of 0 is 1, its other powers are 0.
     check("K 1 1; B 1 1; H 1 2", [0, 0, 1]);
     check(
         "K 1 2; B 1 1 2; H 1 1 3; B 1 1 2; H 1 3 4; B 1 1 1; H 1 1 1",
         [0, 0, 1],
     );
+}
+
+#[test]
+fn each_0_is_a_value() {
+    let rule = "B 1 1 1; H 1 2 1;";
+    check(
+        &format!("K 1 2; {rule} R 1 0 0; R 1 0 0; R 1 7 7"),
+        [10, 100, 10],
+    );
+    // No rule fires: the deepest generation is 0.
+    check(&format!("K 1 2; {rule} R 1 0 0; R 1 0 0"), [4, 16, 4]);
+    check("K 1 1; R 1 0", [1, 1, 0]);
+    check("K 1 1; R 1 3; R 1 0; R 1 3; R 1 0", [3, 3, 0]);
+    let carried = "K 1 1; K 2 2; K 3 2; B 1 1; H 2 1 1; B 2 1 1; H 3 1 2; R 1 0";
+    check(carried, [2, 2 + 4 + 4, 4]);
 }
 
 #[test]

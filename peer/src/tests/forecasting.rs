@@ -67,6 +67,7 @@ fn families_have_the_values_that_they_promise() {
         of(1_024, 6_144),
         of(1_024, 95),
         of(1_024, 1_024),
+        of(1_024, 6_144),
         of(1, 6),
     ];
     assert_eq!(values.collect::<Vec<_>>(), wanted);

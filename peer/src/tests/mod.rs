@@ -9,3 +9,4 @@ mod refusals;
 mod series;
 mod sheets;
 mod texts;
+mod zeros;

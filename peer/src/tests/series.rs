@@ -2,6 +2,7 @@
 
 use crate::random::series::{families, layers, links, End, Order};
 use crate::random::sheets::{text_of, Sheet};
+use crate::random::zeros::count;
 use crate::random::Random;
 use crate::{judge, verify, Verdict};
 
@@ -31,7 +32,7 @@ fn every_family_is_judged_and_most_are_read() {
     let too_long = sheets().filter(|sheet| text_of(&sheet.lines()).len() > 32_768);
     assert_eq!(
         (all.len(), sheets().count(), too_long.count()),
-        (13, 312, 4)
+        (14, 313, 4)
     );
     sheets().for_each(|sheet| {
         judged(sheet);
@@ -65,6 +66,15 @@ fn a_sheet_of_1024_rows() {
     let sheet = &family("1,024 rows, 30 kinds, 40 rules")[0];
     let counts = (sheet.rows.len(), sheet.kinds.len(), sheet.rules.len());
     assert_eq!(counts, (1_024, 30, 40));
+    judged(sheet);
+}
+
+#[test]
+fn a_sheet_with_a_third_of_its_values_not_given() {
+    let sheet = &family("1,024 rows, a third of the values not given")[0];
+    let values: usize = sheet.rows.iter().map(|row| row.numbers.len()).sum();
+    let zeros = count(&sheet.lines());
+    assert!(sheet.rows.len() == 1_024 && (30..=36).contains(&(100 * zeros / values)));
     judged(sheet);
 }
 

@@ -64,15 +64,71 @@ fn endless_ones() {
 #[test]
 fn patterns() {
     let number = |numbers: &[u32]| crate::pattern(numbers).unwrap();
-    assert_eq!(number(&[0, 0]), 2);
+    assert_eq!(number(&[7, 7]), 2);
     assert_eq!(number(&[9]), 1);
-    assert_eq!(number(&[1, 0]), 3);
+    assert_eq!(number(&[1, 2]), 3);
     assert_eq!(number(&[7, 4, 7, 9]), 16);
     assert_eq!(number(&[6, 5, 4, 3, 2, u32::MAX]), 278);
     let mut all: Vec<u32> = digit_strings().iter().map(|d| number(d)).collect();
     all.sort_unstable();
     all.dedup();
     assert_eq!(all, (1..=278).collect::<Vec<u32>>());
+}
+
+#[test]
+fn patterns_with_zeros() {
+    let number = |numbers: &[u32]| crate::pattern(numbers).unwrap();
+    assert_eq!(number(&[0]), 1);
+    assert_eq!(number(&[0, 0]), 3);
+    assert_eq!(number(&[1, 0]), 3);
+    assert_eq!(number(&[0, 7, 7]), number(&[1, 2, 2]));
+    assert_eq!(number(&[7, 0, 7, 0]), 16);
+    assert_eq!(number(&[0; 6]), 278);
+    // Each 0 is as good as a number that stands nowhere else.
+    for digits in digit_strings() {
+        for zeros in 0..1 << digits.len() {
+            let is_zero = |field: usize| zeros >> field & 1 == 1;
+            let fields = || digits.iter().enumerate();
+            let with = |of: fn(usize) -> u32| {
+                let field = |(at, &digit)| if is_zero(at) { of(at) } else { digit };
+                fields().map(field).collect::<Vec<u32>>()
+            };
+            let (with_zeros, with_others) = (with(|_| 0), with(|at| 10 + at as u32));
+            assert_eq!(number(&with_zeros), number(&with_others), "{with_zeros:?}");
+        }
+    }
+}
+
+#[test]
+fn two_zeros_are_not_the_same() {
+    // Endless only if two zeros were equal: rule 1 does not fire.
+    let rules = "K 1 2; K 2 2; B 1 1 1; H 2 1 2; B 2 1 2; H 1 2 2;";
+    let of = |rows: &str| figures(&format!("{rules} {rows}"));
+    assert_eq!(of("R 1 0 0"), (false, 0, 1, 0, 0, 0, 0));
+    assert_eq!(of("R 1 0 0; R 1 0 0; R 1 0 7"), (false, 0, 1, 0, 0, 0, 0));
+    assert_eq!(of("R 1 7 7"), (true, 0, 2, 2, 100, 0, 2));
+    assert_eq!(of("R 1 0 0; R 1 7 7"), (true, 0, 3, 2, 100, 0, 2));
+    // Rule 2 carries the 0 to two fields, where it is the same.
+    assert!(of("R 2 7 0").0);
+    let differ = "K 1 2; B 1 1 1; H 1 2 1; R 1 0 0";
+    assert_eq!(figures(differ), (false, 0, 1, 0, 0, 0, 0));
+    let both = "K 1 2; B 1 1 1; H 1 2 1; R 1 0 0; R 1 0 0; R 1 7 7";
+    assert_eq!(figures(both), (false, 1, 2, 1, 100, 1, 0));
+    assert_eq!(judge(both).row, 3);
+}
+
+#[test]
+fn a_carried_0_is_the_same() {
+    let sheet = "K 1 1; K 2 2; K 3 2; B 1 1; H 2 1 1; B 2 1 1; H 3 1 2; R 1 0";
+    assert_eq!(figures(sheet), (false, 1, 3, 2, 100, 2, 0));
+    // From either field of the record in between.
+    let verdict = judge(sheet);
+    assert_eq!(verdict.steps[0], [1, 1, 0, 0, 0]);
+    for from in [1, 2] {
+        let mut other = verdict.clone();
+        other.steps[1][2] = from;
+        assert_eq!(crate::verify(&lent(sheet), &other), Ok(()));
+    }
 }
 
 /// All records of one to six fields over six values.
@@ -82,7 +138,7 @@ fn digit_strings() -> Vec<Vec<u32>> {
     for _ in 0..6 {
         let end = all.len();
         for at in start..end {
-            for digit in 0..6 {
+            for digit in 1..=6 {
                 let longer = [&all[at][..], &[digit]].concat();
                 all.push(longer);
             }
@@ -97,7 +153,7 @@ fn patterns_rise_with_length_and_digits() {
     // First-appearance strings, shorter first, then by digits.
     let mut strings: Vec<Vec<u32>> = digit_strings()
         .into_iter()
-        .filter(|s| (0..s.len()).all(|i| s[i] <= s[..i].iter().max().map_or(0, |m| m + 1)))
+        .filter(|s| (0..s.len()).all(|i| s[i] <= s[..i].iter().max().map_or(1, |m| m + 1)))
         .collect();
     strings.sort_by_key(|s| (s.len(), s.clone()));
     for (index, string) in strings.iter().enumerate() {
@@ -142,7 +198,7 @@ fn many_shapes(count: usize) -> Vec<u32> {
     let patterns = strings
         .iter()
         .filter(|s| s.len() == 6)
-        .filter(|s| (0..6).all(|i| s[i] <= s[..i].iter().max().map_or(0, |m| m + 1)));
+        .filter(|s| (0..6).all(|i| s[i] <= s[..i].iter().max().map_or(1, |m| m + 1)));
     let rows = (1..=64).flat_map(|kind| {
         let row = move |s: &Vec<u32>| [&[u32::from(b'R'), kind][..], s].concat();
         patterns.clone().map(row)

@@ -1,4 +1,4 @@
--- `forecasting::values::zeros_of` meets its contract. The invariant: how many of the first k values are 0. The measure is how many values are left. Assumes nothing.
+-- `forecasting::values::zeros_of` meets its contract. The invariant: how many of the first i values are 0. The measure is how many values are left. Assumes nothing.
 use mathlib.Core.Logic.{⊎-elim}
 use Prim.Native.Nat.{_-_}
 use native.Mathlib.Omega.{arith}
@@ -9,10 +9,10 @@ use Rattle.forecasting.proofs.values.zeros_of.Statement.{statement}
 use Rattle.forecasting.proofs.values.zeros_of.Tie as tie
 
 abbrev Inv-loop : tie.InvT-loop
-Inv-loop row r₀ k₀ r k = ZerosTo row k r
+Inv-loop row r₀ i₀ r i = ZerosTo row i r
 
 abbrev μ-loop : tie.MeasureT-loop
-μ-loop row r₀ k₀ r k = length row - k
+μ-loop row r₀ i₀ r i = length row - i
 
 loop-holds : tie.Need-loop-holds Inv-loop μ-loop
 loop-holds c = zeros-none _
@@ -26,16 +26,16 @@ shared-slice-read-if1 c = search needs
 add-r : tie.Need-add-r Inv-loop μ-loop
 add-r c = omega (arith, c .before .before .before .loop .inv .few, c .before .before .loop-test .taken)
 
-add-k : tie.Need-add-k Inv-loop μ-loop
-add-k c = search needs
+add-i : tie.Need-add-i Inv-loop μ-loop
+add-i c = search needs
 
 loop-less : tie.Need-loop-less Inv-loop μ-loop
 loop-less c = search needs
 
 loop-again : tie.Need-loop-again Inv-loop μ-loop
-loop-again c = let i = c .before .before in
-    ⊎-elim (λ w. rw (w .1) (zeros-one (i .before .loop .inv) (i .loop-test .taken) (w .0 .taken)))
-    (λ w. rw (w .1) (zeros-other (i .before .loop .inv) (i .loop-test .taken) (w .0 .left))) (c .if1 .came)
+loop-again c = let s = c .before .before in
+    ⊎-elim (λ w. rw (w .1) (zeros-one (s .before .loop .inv) (s .loop-test .taken) (w .0 .taken)))
+    (λ w. rw (w .1) (zeros-other (s .before .loop .inv) (s .loop-test .taken) (w .0 .left))) (c .if1 .came)
 
 returns : tie.Need-returns Inv-loop μ-loop
 returns c = zeros-all (c .before .loop .inv) (c .loop-test .left)
@@ -50,7 +50,7 @@ zeros-of-spec =
     mul-if1
     shared-slice-read-if1
     add-r
-    add-k
+    add-i
     loop-less
     loop-again
     returns)
