@@ -19,13 +19,12 @@ use Rattle.chase.specs.Steps.{Step, after, Each, lastOf, firedOn, Goes, 
 use Rattle.chase.specs.Judge.{Verdict, Judgement, judged, refuses, SettlesAtOnce, Settles, Endless, Right, Refuses, short, wrong, many, JudgeMeets}
 use Rattle.chase.specs.Certificate.{lastShape, WayOn, LoopOn}
 use Rattle.chase.proofs.ListLaws.{maps-each}
-use Rattle.chase.proofs.CountLaws.{count-iff}
 use Rattle.chase.proofs.StepLaws.{nth-in, nth-rel, rel-some, goes-shape, after-made, head-in, fresh-shape, freshAlone-shape, reaching-by-shape, moves-by-shape, each-same, shape-each, each-goes, last-shape, fired-shapes, same-places, steps-fit}
 use Rattle.chase.proofs.LineLaws.{head-goes, line-goes}
 use Rattle.chase.proofs.BoundLaws.{TableRows, rows-of-tables}
 use Rattle.chase.proofs.CertificateLaws.{row-start, endless-certificate}
 use Rattle.chase.proofs.JudgeLaws.{good-or-refused}
-use Rattle.chase.proofs.TwinLaws.{Peers, Twin, made-twin, row-twin, SameShapes, reached-by-shapes, fired-by-shapes, bounded-by-shapes}
+use Rattle.chase.proofs.TwinLaws.{Peers, Twin, made-twin, row-twin, SameShapes, reached-by-shapes, reached-count, fired-count, bounded-by-shapes}
 
 -- Steps on twins.
 module _ (rules : List Rule) where
@@ -178,19 +177,13 @@ module _ (limit : ℕ) (numbers others before : List ℕ) (ls ms : List Line) (p
       let e : r .lines ≡ ls = good-one (r .sheet) in
       let steps = r .steps in
       let shapes-count : Count (Reached rl (rowsOf ls)) (v .shapes) = subst (λ (k : List Line). Count (Reached (rulesOf k) (rowsOf k)) (v .shapes)) e (r .shapes) in
-      let fired-count : Count (Fired rl (rowsOf ls)) (v .fired) = subst (λ (k : List Line). Count (Fired (rulesOf k) (rowsOf k)) (v .fired)) e (r .fired) in
+      let fired-count′ : Count (Fired rl (rowsOf ls)) (v .fired) = subst (λ (k : List Line). Count (Fired (rulesOf k) (rowsOf k)) (v .fired)) e (r .fired) in
       record {
         lines = ms;
         sheet = q;
-        shapes =
-            there (λ k w. Count (Reached k w) (v .shapes))
-            (count-iff (Reached rl (rowsOf ls)) (Reached rl (rowsOf ms)) (v .shapes) (λ t. reached-by-shapes rl (rowsOf ls) (rowsOf ms) alike t .0)
-            (λ t. reached-by-shapes rl (rowsOf ls) (rowsOf ms) alike t .1) shapes-count);
+        shapes = there (λ k w. Count (Reached k w) (v .shapes)) (reached-count rl (rowsOf ls) (rowsOf ms) alike (v .shapes) shapes-count);
         within = r .within;
-        fired =
-            there (λ k w. Count (Fired k w) (v .fired))
-            (count-iff (Fired rl (rowsOf ls)) (Fired rl (rowsOf ms)) (v .fired) (λ t. fired-by-shapes rl (rowsOf ls) (rowsOf ms) alike t .0)
-            (λ t. fired-by-shapes rl (rowsOf ls) (rowsOf ms) alike t .1) fired-count);
+        fired = there (λ k w. Count (Fired k w) (v .fired)) (fired-count rl (rowsOf ls) (rowsOf ms) alike (v .fired) fired-count′);
         share-is = r .share-is ∙ ap (λ (k : List Line). share (v .fired) (length (rulesOf k))) e ∙ ap (λ (k : List Rule). share (v .fired) (length k)) rules;
         steps = steps;
         count = r .count;

@@ -6,10 +6,10 @@ use mathlib.Core.Option.{some}
 use Prim.Native.Nat.{ℕ, zero, suc, _≤_}
 use native.Mathlib.Omega.{arith}
 use lib.ListN.{length}
+use Rattle.patterns.specs.Lists.{Numbered, numbered}
 use Rattle.patterns.proofs.PatternLaws.{length-pattern}
 use Rattle.sheet.specs.Line.{Line}
 use Rattle.chase.specs.Lists.{In, All2}
-use Rattle.patterns.specs.Lists.{Numbered, numbered}
 use Rattle.chase.specs.Rules.{Head, Rule, rowLines, nth}
 use Rattle.chase.specs.Value.{Value, Value-discrete, values, generation, deepest}
 use Rattle.chase.specs.Making.{Record, Fires, made, freshOf, makes}

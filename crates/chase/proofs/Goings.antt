@@ -5,9 +5,9 @@ use mathlib.Core.List.{List, [], _∷_, _++_, map}
 use mathlib.Core.Option.{some, Option·none-ne-some}
 use Prim.Native.Nat.{ℕ, zero, suc}
 use native.Mathlib.Decide.{ℕ-discrete}
+pub use Rattle.patterns.specs.Lists.{Numbered, next, numbered}
 use Rattle.patterns.specs.Pattern.{pick}
 use Rattle.chase.specs.Lists.{options-discrete, In, in?}
-pub use Rattle.patterns.specs.Lists.{Numbered, next, numbered}
 use Rattle.chase.specs.Rules.{Head, Rule, nth}
 use Rattle.chase.specs.Value.{Value, Value-discrete}
 use Rattle.chase.specs.Making.{Record, Fires, fires?, valueOf, carriedValues}

@@ -15,8 +15,8 @@ use Rattle.chase.specs.Run.{rowsOf}
 use Rattle.chase.specs.Shape.{Reached, Fired}
 use Rattle.chase.specs.Counting.{Count, share}
 use Rattle.chase.specs.Judge.{Verdict, Bounded, Unbounded, Right, Refuses, short, wrong, many, stepLimit}
-use Rattle.chase.proofs.CountLaws.{count-one, count-iff, more-than-count}
-use Rattle.chase.proofs.TwinLaws.{SameShapes, reached-by-shapes, fired-by-shapes, says-by-shapes}
+use Rattle.chase.proofs.CountLaws.{count-one, more-than-count}
+use Rattle.chase.proofs.TwinLaws.{SameShapes, reached-count, fired-count, says-by-shapes}
 use Rattle.chase.proofs.CertificateLaws.{Met, not-both, Says, settles, endless, answer-says, says-one}
 
 -- What an answer says decides whether the generations have a bound.
@@ -112,12 +112,8 @@ figures-same limit numbers others before later ls ms v w now then p q rules same
     let here : Says rl (rowsOf ms) (w .verdict) (w .deepest) =
     subst (λ (k : List Rule). Says k (rowsOf ms) (w .verdict) (w .deepest)) (sym rules) (right-says limit others later w then ms s q) in
     let a = says-one rl (rowsOf ms) (v .verdict) (v .deepest) (w .verdict) (w .deepest) there here in
-    let shapes : Count (Reached rl (rowsOf ms)) (v .shapes) =
-    count-iff (Reached rl (rowsOf ls)) (Reached rl (rowsOf ms)) (v .shapes) (λ t. reached-by-shapes rl (rowsOf ls) (rowsOf ms) same t .0)
-    (λ t. reached-by-shapes rl (rowsOf ls) (rowsOf ms) same t .1) (right-shapes limit numbers before v now ls r p) in
-    let fired : Count (Fired rl (rowsOf ms)) (v .fired) =
-    count-iff (Fired rl (rowsOf ls)) (Fired rl (rowsOf ms)) (v .fired) (λ t. fired-by-shapes rl (rowsOf ls) (rowsOf ms) same t .0)
-    (λ t. fired-by-shapes rl (rowsOf ls) (rowsOf ms) same t .1) (right-fired limit numbers before v now ls r p) in
+    let shapes = reached-count rl (rowsOf ls) (rowsOf ms) same (v .shapes) (right-shapes limit numbers before v now ls r p) in
+    let fired = fired-count rl (rowsOf ls) (rowsOf ms) same (v .fired) (right-fired limit numbers before v now ls r p) in
     let c = count-one (Reached rl (rowsOf ms)) (v .shapes) (w .shapes) shapes
     (subst (λ (k : List Rule). Count (Reached k (rowsOf ms)) (w .shapes)) (sym rules) (right-shapes limit others later w then ms s q)) in
     let f = count-one (Fired rl (rowsOf ms)) (v .fired) (w .fired) fired

@@ -13,8 +13,10 @@ use Rattle.chase.specs.Value.{Value, Value-discrete, values, generation,
 use Rattle.chase.specs.Making.{Record, Fires, made, freshOf, makes}
 use Rattle.chase.specs.Run.{Reachable, row, madeFrom}
 use Rattle.chase.specs.Shape.{Shape, shapeOf, Reached, Fired}
+use Rattle.chase.specs.Counting.{Count}
 use Rattle.chase.specs.Judge.{Left, Bounded, Unbounded}
 use Rattle.chase.proofs.ListLaws.{in-map, map-in}
+use Rattle.chase.proofs.CountLaws.{count-iff}
 use Rattle.chase.proofs.MakingLaws.{makes-rel}
 use Rattle.chase.proofs.ShapeLaws.{fires-shape, made-shape}
 use Rattle.chase.proofs.RunLaws.{left-reachable, reachable-left}
@@ -150,6 +152,12 @@ module _ (rules : List Rule) (rows others : List Record) (same : SameShapes rows
     fired-there rules rows others (same .table) (same .other) there n,
     fired-there rules others rows (same .other) (same .table) back n,
   )
+
+  pub reached-count : (n : ℕ) → Count (Reached rules rows) n → Count (Reached rules others) n
+  reached-count n = count-iff (Reached rules rows) (Reached rules others) n (λ s. reached-by-shapes s .0) (λ s. reached-by-shapes s .1)
+
+  pub fired-count : (n : ℕ) → Count (Fired rules rows) n → Count (Fired rules others) n
+  fired-count n = count-iff (Fired rules rows) (Fired rules others) n (λ k. fired-by-shapes k .0) (λ k. fired-by-shapes k .1)
 
   pub bounded-by-shapes : (d : ℕ) → Bounded rules rows d ↔ Bounded rules others d
   bounded-by-shapes d = (

@@ -1,13 +1,13 @@
--- Runs of firings, and the records that can be reached. Assumes nothing.
+-- What a row means, runs of firings, and the records that can be reached. Assumes nothing.
 use mathlib.Core.Path.{_≡_}
 use mathlib.Core.List.{List, [], _∷_, map}
 use mathlib.Core.Option.{Option, none, some}
 use mathlib.Core.Logic.{_⊎_}
 use Prim.Native.Nat.{ℕ, zero, suc}
 use Rattle.sheet.specs.Line.{Line}
+use Rattle.patterns.specs.Lists.{Numbered, numbered}
 use Rattle.patterns.specs.Pattern.{pick, addAll}
 use Rattle.chase.specs.Lists.{both?, In, in?}
-use Rattle.patterns.specs.Lists.{Numbered, numbered}
 use Rattle.chase.specs.Rules.{Head, Rule, rowLines, nth}
 use Rattle.chase.specs.Value.{Value, table, missing}
 use Rattle.chase.specs.Making.{Record, Record-discrete, Fires, fires?, made}
