@@ -125,6 +125,7 @@ struct Tally {
     met: [usize; 3],
     endless: usize,
     halves: usize,
+    with_zeros: usize,
     chased: usize,
     figures: Vec<Figures>,
     zeros: Zeros,
@@ -133,6 +134,7 @@ struct Tally {
 /// Of sheets with a 0 in a row.
 #[derive(Default)]
 struct Zeros {
+    /// With enough steps lent.
     judged: [usize; 13],
     carried: [usize; 24],
     /// Carried out with 99,999,999 as the largest number.
@@ -213,6 +215,7 @@ fn compare_judge(random: &mut Random, input: &Input, tally: &mut Tally) -> Resul
             compare_chase(&numbers, &verdict, tally)?;
             tally.count(input.style, &library);
             tally.halves += usize::from(is_at_a_half(&numbers, verdict.fired));
+            tally.with_zeros += usize::from(zeros::count(lines_of(&numbers)) > 0);
             counted
         }
     };
@@ -687,7 +690,7 @@ impl fmt::Display for Tally {
             self.endless,
             self.chased,
             self.halves,
-            self.zeros.judged[0],
+            self.with_zeros,
             counts(&self.carried),
             self.records,
             self.firings,
