@@ -7,7 +7,7 @@ use mathlib.Core.Option.{some}
 use Prim.Native.Nat.{ℕ, zero, suc, _+_, _-_, _≤_, _<_}
 use native.Mathlib.Decide.{ℕ-discrete, decLe}
 use native.Mathlib.Omega.{arith}
-use lib.ListN.{length, getD, length-append}
+use lib.ListN.{length, getD, take, length-append}
 use lib.Seq.{getD-append-seam}
 use Rattle.patterns.specs.Lists.{Numbered, next, numbered}
 use Rattle.patterns.specs.Pattern.{pick, index}
@@ -67,28 +67,49 @@ filledRows-in next (v ∷ ws) w a (inr i) j =
       | inr s ↦ inr (omega (arith, s .0), omega (arith, s .1, zeros-append (v .numbers) (numbersIn ws)))
     ]
 
+-- Where each number goes: a 0 becomes the next number after those of the zeros before it, another number stays.
+pub length-filled : (next : ℕ) (ns : List ℕ) → length (filled next ns) ≡ length ns
+length-filled next [] = refl
+length-filled next (zero ∷ ns) = ap suc (length-filled (suc next) ns)
+length-filled next (suc n ∷ ns) = ap suc (length-filled next ns)
+
+pub zero-filled : (next : ℕ) (ns : List ℕ) (k : ℕ) → k < length ns → getD ns k 0 ≡ 0 → getD (filled next ns) k 0 ≡ next + zeros (take k ns)
+zero-filled next [] k h e = absurd (omega arith)
+zero-filled next (zero ∷ ns) zero h e = omega arith
+zero-filled next (suc n ∷ ns) zero h e = absurd (omega arith)
+zero-filled next (zero ∷ ns) (suc k) h e = omega (arith, zero-filled (suc next) ns k (omega arith) e)
+zero-filled next (suc n ∷ ns) (suc k) h e = zero-filled next ns k (omega arith) e
+
+pub other-stays : (next : ℕ) (ns : List ℕ) (k : ℕ) → (getD ns k 0 ≡ 0 → ⊥) → getD (filled next ns) k 0 ≡ getD ns k 0
+other-stays next [] k e = absurd (e refl)
+other-stays next (zero ∷ ns) zero e = absurd (e refl)
+other-stays next (suc n ∷ ns) zero e = refl
+other-stays next (zero ∷ ns) (suc k) e = other-stays (suc next) ns k e
+other-stays next (suc n ∷ ns) (suc k) e = other-stays next ns k e
+
+-- How many zeros there are up to a place.
+pub one-zero : (ns : List ℕ) (k : ℕ) → k < length ns → getD ns k 0 ≡ 0 → zeros (take (suc k) ns) ≡ suc (zeros (take k ns))
+one-zero [] k h e = absurd (omega arith)
+one-zero (zero ∷ ns) zero h e = refl
+one-zero (suc n ∷ ns) zero h e = absurd (omega arith)
+one-zero (zero ∷ ns) (suc k) h e = ap suc (one-zero ns k (omega arith) e)
+one-zero (suc n ∷ ns) (suc k) h e = one-zero ns k (omega arith) e
+
+pub no-zero-there : (ns : List ℕ) (k : ℕ) → (getD ns k 0 ≡ 0 → ⊥) → zeros (take (suc k) ns) ≡ zeros (take k ns)
+no-zero-there [] k e = absurd (e refl)
+no-zero-there (zero ∷ ns) zero e = absurd (e refl)
+no-zero-there (suc n ∷ ns) zero e = refl
+no-zero-there (zero ∷ ns) (suc k) e = ap suc (no-zero-there ns k e)
+no-zero-there (suc n ∷ ns) (suc k) e = no-zero-there ns k e
+
+pub zeros-few : (ns : List ℕ) → zeros ns ≤ length ns
+zeros-few [] = omega arith
+zeros-few (zero ∷ ns) = omega (arith, zeros-few ns)
+zeros-few (suc n ∷ ns) = omega (arith, zeros-few ns)
+
 -- The numbers of a row with its zeros filled are filled in the sense of `Filled`.
-filled-length : (next : ℕ) (ns : List ℕ) → length ns ≡ length (filled next ns)
-filled-length next [] = refl
-filled-length next (zero ∷ ns) = ap suc (filled-length (suc next) ns)
-filled-length next (suc n ∷ ns) = ap suc (filled-length next ns)
-
 filled-at : (next : ℕ) (ns : List ℕ) (i : ℕ) → i < length ns → Held next ns (getD (filled next ns) i 0)
-filled-at next ns i h = filled-in next ns (getD (filled next ns) i 0) (in-getD (filled next ns) i 0 (omega (arith, filled-length next ns)))
-
-filled-kept : (next : ℕ) (ns : List ℕ) (i : ℕ) → i < length ns → (getD ns i 0 ≡ 0 → ⊥) → getD (filled next ns) i 0 ≡ getD ns i 0
-filled-kept next [] i h k = absurd (omega arith)
-filled-kept next (zero ∷ ns) zero h k = absurd (k refl)
-filled-kept next (zero ∷ ns) (suc i) h k = filled-kept (suc next) ns i (omega arith) k
-filled-kept next (suc n ∷ ns) zero h k = refl
-filled-kept next (suc n ∷ ns) (suc i) h k = filled-kept next ns i (omega arith) k
-
-filled-zero : (next : ℕ) (ns : List ℕ) (i : ℕ) → i < length ns → getD ns i 0 ≡ 0 → next ≤ getD (filled next ns) i 0
-filled-zero next [] i h z = absurd (omega arith)
-filled-zero next (zero ∷ ns) zero h z = omega arith
-filled-zero next (zero ∷ ns) (suc i) h z = omega (arith, filled-zero (suc next) ns i (omega arith) z)
-filled-zero next (suc n ∷ ns) zero h z = absurd (omega arith)
-filled-zero next (suc n ∷ ns) (suc i) h z = filled-zero next ns i (omega arith) z
+filled-at next ns i h = filled-in next ns (getD (filled next ns) i 0) (in-getD (filled next ns) i 0 (omega (arith, length-filled next ns)))
 
 filled-new : (next : ℕ) (ns : List ℕ) → ((a : ℕ) → In a ns → a < next) → (i j : ℕ) → i < length ns → j < length ns → getD ns i 0 ≡ 0
     → getD (filled next ns) i 0 ≡ getD (filled next ns) j 0 → i ≡ j
@@ -99,18 +120,18 @@ filled-new next (zero ∷ ns) b zero (suc j) p q z e =
       | inl s ↦ absurd (omega (arith, b (getD (filled (suc next) ns) j 0) (inr (s .0))))
       | inr s ↦ absurd (omega (arith, s .0))
     ]
-filled-new next (zero ∷ ns) b (suc i) zero p q z e = absurd (omega (arith, filled-zero (suc next) ns i (omega arith) z))
+filled-new next (zero ∷ ns) b (suc i) zero p q z e = absurd (omega (arith, zero-filled (suc next) ns i (omega arith) z))
 filled-new next (zero ∷ ns) b (suc i) (suc j) p q z e =
     ap suc (filled-new (suc next) ns (λ a k. omega (arith, b a (inr k))) i j (omega arith) (omega arith) z e)
 filled-new next (suc n ∷ ns) b zero j p q z e = absurd (omega arith)
-filled-new next (suc n ∷ ns) b (suc i) zero p q z e = absurd (omega (arith, filled-zero next ns i (omega arith) z, b (suc n) (inl refl)))
+filled-new next (suc n ∷ ns) b (suc i) zero p q z e = absurd (omega (arith, zero-filled next ns i (omega arith) z, b (suc n) (inl refl)))
 filled-new next (suc n ∷ ns) b (suc i) (suc j) p q z e = ap suc (filled-new next ns (λ a k. b a (inr k)) i j (omega arith) (omega arith) z e)
 
 filled-row : (next : ℕ) (ns : List ℕ) → 0 < next → ((a : ℕ) → In a ns → a < next) → Filled ns (filled next ns)
 filled-row next ns l b =
     record {
-      width = filled-length next ns;
-      kept = filled-kept next ns;
+      width = sym (length-filled next ns);
+      kept = λ i h. other-stays next ns i;
       not-zero = λ i h z. elim (filled-at next ns i h) [ inl s ↦ omega (arith, s .1) | inr s ↦ omega (arith, s .0) ];
       new = filled-new next ns b;
     }

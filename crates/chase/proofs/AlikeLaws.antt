@@ -3,14 +3,14 @@ use mathlib.Core.Path.{_≡_, refl, sym, _∙_, ap, subst}
 use mathlib.Core.Logic.{_⊎_, inl, inr}
 use mathlib.Core.List.{List, [], _∷_, _++_, map, map-append}
 use mathlib.Core.Option.{some}
-use Prim.Native.Nat.{ℕ, suc}
+use Prim.Native.Nat.{ℕ}
 use lib.ListN.{length, take, drop}
 use Rattle.patterns.specs.Outcome.{good}
 use Rattle.sheet.specs.Line.{Line}
 use Rattle.sheet.specs.Write.{sheetHeld}
 use Rattle.chase.specs.Lists.{In}
 use Rattle.chase.specs.Rules.{Rule, rulesOf, nth}
-use Rattle.chase.specs.Value.{Value, generation}
+use Rattle.chase.specs.Value.{generation}
 use Rattle.chase.specs.Making.{Record}
 use Rattle.chase.specs.Run.{rowsOf, start}
 use Rattle.chase.specs.Shape.{Shape, shapeOf, Reached, Fired}

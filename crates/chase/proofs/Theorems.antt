@@ -7,7 +7,7 @@ use mathlib.Core.Option.{some}
 use Prim.Native.Nat.{ℕ, _≤_, _<_}
 use lib.ListN.{length}
 use Rattle.sheet.specs.Line.{Line}
-use Rattle.patterns.specs.Lists.{Numbered, numbered}
+use Rattle.patterns.specs.Lists.{Numbered}
 use Rattle.patterns.specs.Outcome.{good}
 use Rattle.patterns.specs.Pattern.{numbersPattern}
 use Rattle.chase.specs.Lists.{In}

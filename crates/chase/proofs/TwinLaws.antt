@@ -1,16 +1,15 @@
 -- Laws of twins: two tables whose rows have the same shapes reach the same shapes, fire the same rules and have the same generations. Assumes nothing.
 use mathlib.Core.Path.{_≡_, refl, sym, _∙_, ap}
-use mathlib.Core.Logic.{_⊎_, inl, inr, _↔_}
+use mathlib.Core.Logic.{inl, inr, _↔_}
 use mathlib.Core.List.{List, [], _∷_, map}
-use mathlib.Core.Option.{some}
-use Prim.Native.Nat.{ℕ, suc, _≤_, _<_}
+use Prim.Native.Nat.{ℕ, suc}
 use native.Mathlib.Omega.{arith}
 use lib.ListN.{length}
 use Rattle.patterns.proofs.PatternLaws.{length-pattern}
 use Rattle.chase.specs.Lists.{In, All2}
-use Rattle.chase.specs.Rules.{Head, Rule, nth}
+use Rattle.chase.specs.Rules.{Head, Rule}
 use Rattle.chase.specs.Value.{Value, Value-discrete, values, generation, deepest}
-use Rattle.chase.specs.Making.{Record, Fires, made, freshOf, makes}
+use Rattle.chase.specs.Making.{Record, Fires, made, freshOf}
 use Rattle.chase.specs.Run.{Reachable, row, madeFrom}
 use Rattle.chase.specs.Shape.{Shape, shapeOf, Reached, Fired}
 use Rattle.chase.specs.Counting.{Count}

@@ -3,7 +3,7 @@ use mathlib.Core.Path.{_≡_, refl, sym, _∙_, ap, subst}
 use mathlib.Core.Logic.{inl, inr}
 use mathlib.Core.Bool.{true, false}
 use mathlib.Core.List.{List, [], _∷_, _++_, append-nil, append-assoc}
-use Prim.Native.Nat.{ℕ, zero, suc, _+_, _*_, _-_, _/_, _%_, _≤_, _<_}
+use Prim.Native.Nat.{ℕ, suc, _+_, _*_, _-_, _/_, _%_, _≤_, _<_}
 use native.Mathlib.Decide.{ℕ-discrete}
 use native.Mathlib.Numerals.{add-one}
 use native.Mathlib.Omega.{arith}
@@ -24,7 +24,7 @@ use Rattle.chains.specs.inner.Chains.{FoundAt}
 use Rattle.chains.proofs.ChainLaws.{Searching, search-begin, search-place, search-next, search-less, found-here, found-nowhere, chains-push, chains-alike}
 use Rattle.growth.specs.Forecast.{firstT}
 use Rattle.carrying.specs.Carrying.{zeros as zerosIn}
-use Rattle.carrying.proofs.FilledLaws.{zeros-append}
+use Rattle.carrying.proofs.FilledLaws.{zeros-append, one-zero, no-zero-there}
 use Rattle.growth.proofs.LoopLaws.{different, different-old, different-new, numbersOf, first-by-numbers}
 use Rattle.forecasting.specs.inner.Values.{bucketOf, bucketAt, IsAt, Stored, AreOf, Added, ValuesAre}
 
@@ -174,21 +174,11 @@ pub zeros-none : (row : List ℕ) → ZerosTo row 0 0
 zeros-none row = record { within = omega arith; are = refl; few = omega arith }
 
 module _ {row : List ℕ} {k r : ℕ} (z : ZerosTo row k r) (h : k < length row) where
-  zeros-next : zerosIn (take (k + 1) row) ≡ r + zerosIn (getD row k 0 ∷ [])
-  zeros-next =
-      omega (arith, ap zerosIn (ap (λ (j : ℕ). take j row) (add-one k) ∙ take-suc row k 0 h), zeros-append (take k row) (getD row k 0 ∷ []), z .are)
-
   pub zeros-one : getD row k 0 ≡ 0 → ZerosTo row (k + 1) (r + 1)
-  zeros-one e =
-      let one : zerosIn (getD row k 0 ∷ []) ≡ 1 = ap (λ (x : ℕ). zerosIn (x ∷ [])) e in
-      record { within = omega arith; are = omega (arith, zeros-next, one); few = omega (arith, z .few) }
+  zeros-one e = record { within = omega arith; are = omega (arith, z .are, ap (λ (j : ℕ). zerosIn (take j row)) (add-one k), one-zero row k h e); few = omega (arith, z .few) }
 
   pub zeros-other : (getD row k 0 ≡ 0 → ⊥) → ZerosTo row (k + 1) r
-  zeros-other d = record { within = omega arith; are = omega (arith, zeros-next, none (getD row k 0) d); few = omega (arith, z .few) }
-    where
-      none : (x : ℕ) → (x ≡ 0 → ⊥) → zerosIn (x ∷ []) ≡ 0
-      none zero d = absurd (d refl)
-      none (suc x) d = refl
+  zeros-other d = record { within = omega arith; are = omega (arith, z .are, ap (λ (j : ℕ). zerosIn (take j row)) (add-one k), no-zero-there row k d); few = omega (arith, z .few) }
 
 pub zeros-all : {row : List ℕ} {k r : ℕ} → ZerosTo row k r → length row ≤ k → (r ≡ zerosIn row) × (r ≤ length row)
 zeros-all {row} {k} z h = (z .are ∙ ap zerosIn (take-all k row h), omega (arith, z .few, z .within))

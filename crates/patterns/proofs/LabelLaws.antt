@@ -2,12 +2,12 @@
 use mathlib.Core.Path.{_≡_, refl, sym, _∙_, ap, subst}
 use mathlib.Core.Bool.{false≢true}
 use mathlib.Core.Logic.{_⊎_, inl, inr, _↔_}
-use mathlib.Core.List.{List, [], _∷_}
+use mathlib.Core.List.{List}
 use Prim.Native.Nat.{ℕ, zero, suc, _<_}
 use native.Mathlib.Decide.{ℕ-discrete}
 use native.Mathlib.Omega.{arith}
 use lib.ListN.{length, getD, length-map}
-use Rattle.patterns.specs.Lists.{In, All, Numbered, numbered}
+use Rattle.patterns.specs.Lists.{In, Numbered, numbered}
 use Rattle.patterns.specs.Pattern.{index, pattern, Label, none-at, Label-discrete, labelAt, labels, numbersPattern}
 use Rattle.patterns.proofs.ListLaws.{all-of, in-getD, map-at}
 use Rattle.patterns.proofs.NumberedLaws.{numbered-items, numbered-length, numbered-at, item-in}

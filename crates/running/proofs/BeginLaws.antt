@@ -30,7 +30,8 @@ use Rattle.running.specs.inner.Held.{packed, unpacked, rowsAt, recordsFi
 use Rattle.running.specs.inner.Begun.{RowsIn, Begun}
 use Rattle.running.specs.declared.visits.Counts.{Counts}
 use Rattle.running.proofs.RecordLaws.{section-cell, section-length}
-use Rattle.running.proofs.FillLaws.{length-filled, zeros-few, filledRow, length-filledRows, zeros-last, filledRows-last}
+use Rattle.carrying.proofs.FilledLaws.{length-filled, zeros-few}
+use Rattle.running.proofs.FillLaws.{filledRow, length-filledRows, zeros-last, filledRows-last}
 use Rattle.running.proofs.FiringLaws.{addAll-last, grown-none, grown-again}
 
 -- ---- the lines so far

@@ -1,7 +1,7 @@
 -- Zeros that are filled: where each number of a row goes, and one row more. Assumes nothing.
 use mathlib.Core.Path.{_≡_, refl, sym, _∙_, ap}
 use mathlib.Core.List.{List, [], _∷_, _++_}
-use Prim.Native.Nat.{ℕ, zero, suc, _+_, _*_, _≤_, _<_}
+use Prim.Native.Nat.{ℕ, suc, _+_, _*_, _≤_, _<_}
 use native.Mathlib.Numerals.{add-one}
 use native.Mathlib.Omega.{arith}
 use lib.ListN.{length, getD, take, drop, set, length-take, length-drop}
@@ -10,7 +10,7 @@ use Rattle.rules.specs.inner.Bytes.{Part}
 use Rattle.rules.specs.inner.Rows.{rowNumbers}
 use Rattle.rules.proofs.PartLaws.{part-none, part-next}
 use Rattle.carrying.specs.Carrying.{Row, numbersIn, filled, zeros, filledRows}
-use Rattle.carrying.proofs.FilledLaws.{zeros-append}
+use Rattle.carrying.proofs.FilledLaws.{zeros-append, zero-filled, other-stays, one-zero, no-zero-there, zeros-few}
 
 -- ---- the numbers of a row
 
@@ -20,44 +20,6 @@ module _ (lines : List ℕ) (n width : ℕ) where
 
   pub row-number : (k : ℕ) → k < width → getD (rowNumbers lines n width) k 0 ≡ getD lines (8 * n + 2 + k) 0
   row-number k h = getD-take width (drop (8 * n + 2) lines) k 0 h ∙ getD-drop (8 * n + 2) lines k 0
-
-pub length-filled : (next : ℕ) (ns : List ℕ) → length (filled next ns) ≡ length ns
-length-filled next [] = refl
-length-filled next (zero ∷ ns) = ap suc (length-filled (suc next) ns)
-length-filled next (suc n ∷ ns) = ap suc (length-filled next ns)
-
-zero-filled : (next : ℕ) (ns : List ℕ) (k : ℕ) → k < length ns → getD ns k 0 ≡ 0 → getD (filled next ns) k 0 ≡ next + zeros (take k ns)
-zero-filled next [] k h e = absurd (omega arith)
-zero-filled next (zero ∷ ns) zero h e = omega arith
-zero-filled next (suc n ∷ ns) zero h e = absurd (omega arith)
-zero-filled next (zero ∷ ns) (suc k) h e = omega (arith, zero-filled (suc next) ns k (omega arith) e)
-zero-filled next (suc n ∷ ns) (suc k) h e = zero-filled next ns k (omega arith) e
-
-other-stays : (next : ℕ) (ns : List ℕ) (k : ℕ) → (getD ns k 0 ≡ 0 → ⊥) → getD (filled next ns) k 0 ≡ getD ns k 0
-other-stays next [] k e = absurd (e refl)
-other-stays next (zero ∷ ns) zero e = absurd (e refl)
-other-stays next (suc n ∷ ns) zero e = refl
-other-stays next (zero ∷ ns) (suc k) e = other-stays (suc next) ns k e
-other-stays next (suc n ∷ ns) (suc k) e = other-stays next ns k e
-
-one-zero : (ns : List ℕ) (k : ℕ) → k < length ns → getD ns k 0 ≡ 0 → zeros (take (suc k) ns) ≡ suc (zeros (take k ns))
-one-zero [] k h e = absurd (omega arith)
-one-zero (zero ∷ ns) zero h e = refl
-one-zero (suc n ∷ ns) zero h e = absurd (omega arith)
-one-zero (zero ∷ ns) (suc k) h e = ap suc (one-zero ns k (omega arith) e)
-one-zero (suc n ∷ ns) (suc k) h e = one-zero ns k (omega arith) e
-
-no-zero : (ns : List ℕ) (k : ℕ) → (getD ns k 0 ≡ 0 → ⊥) → zeros (take (suc k) ns) ≡ zeros (take k ns)
-no-zero [] k e = absurd (e refl)
-no-zero (zero ∷ ns) zero e = absurd (e refl)
-no-zero (suc n ∷ ns) zero e = refl
-no-zero (zero ∷ ns) (suc k) e = ap suc (no-zero ns k e)
-no-zero (suc n ∷ ns) (suc k) e = no-zero ns k e
-
-pub zeros-few : (ns : List ℕ) → zeros ns ≤ length ns
-zeros-few [] = omega arith
-zeros-few (zero ∷ ns) = omega (arith, zeros-few ns)
-zeros-few (suc n ∷ ns) = omega (arith, zeros-few ns)
 
 -- The first k numbers of a row are put, each 0 as the next number.
 pub record Filling (ns : List ℕ) (next : ℕ) (before : List ℕ) (k given : ℕ) (row : List ℕ) : Type 0 where
@@ -84,7 +46,7 @@ module _ {ns : List ℕ} {next : ℕ} {before : List ℕ} {k given : ℕ} {row :
     filling-other e is same =
         record {
           put = part-next (f .put) place room (is ∙ sym (other-stays next ns k e));
-          given-is = omega (arith, same, f .given-is, ap (λ (n : ℕ). zeros (take n ns)) (add-one k), no-zero ns k e);
+          given-is = omega (arith, same, f .given-is, ap (λ (n : ℕ). zeros (take n ns)) (add-one k), no-zero-there ns k e);
         }
 
   pub filling-all : length ns ≤ k → given ≡ next + zeros ns

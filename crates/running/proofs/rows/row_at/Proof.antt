@@ -7,7 +7,8 @@ use borrow.Author.Needs.{needs}
 use lib.ListN.{length, getD}
 use Rattle.rules.specs.inner.Rows.{rowNumbers}
 use Rattle.running.specs.inner.Held.{codeOf}
-use Rattle.running.proofs.FillLaws.{row-size, row-number, length-filled, filledRow, Filling, filling-none, filling-low, filling-zero, filling-other, filling-all}
+use Rattle.carrying.proofs.FilledLaws.{length-filled}
+use Rattle.running.proofs.FillLaws.{row-size, row-number, filledRow, Filling, filling-none, filling-low, filling-zero, filling-other, filling-all}
 use Rattle.running.proofs.FiringLaws.{filled-row}
 use Rattle.running.proofs.rows.row_at.Statement.{statement}
 use Rattle.running.proofs.rows.row_at.Tie as tie
