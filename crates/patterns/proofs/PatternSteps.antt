@@ -23,22 +23,22 @@ pub search-starts : (xs : List ℕ) (i : ℕ) → Searched xs i 0
 search-starts xs i = record { within = omega arith; left = omega arith }
 
 module _ {xs : List ℕ} {i place : ℕ} (s : Searched xs i place) (h : i < length xs) where
-  pub search-before : (getD xs place 0 ≡ getD xs i 0 → ⊥) → place < i
-  search-before n =
-      let ne : place ≡ i → ⊥ = λ e. n (ap (λ (k : ℕ). getD xs k 0) e) in
-      omega arith
-
-  pub search-goes-on : (getD xs place 0 ≡ getD xs i 0 → ⊥) → Searched xs i (place + 1)
-  search-goes-on n =
-      let b = search-before n in
+  pub search-goes-on : place < i → (getD xs place 0 ≡ getD xs i 0 → ⊥) → Searched xs i (place + 1)
+  search-goes-on b n =
       record {
         within = omega arith;
-        left = rw add-one (omega (arith, index-next ℕ-discrete (getD xs i 0) xs place 0 (omega arith) n));
+        left = rw add-one (omega (arith, s .left, index-next ℕ-discrete (getD xs i 0) xs place 0 (omega arith) n));
       }
 
   pub search-ends : (getD xs i 0 ≡ 0 → ⊥) → getD xs place 0 ≡ getD xs i 0
       → place ≡ index Label-discrete (getD (labels xs) i (none-at 0)) (labels xs)
   search-ends n e = omega (arith, index-here ℕ-discrete (getD xs i 0) xs place 0 (omega arith) e, given-place xs i h n)
+
+  -- Field i equals itself.
+  pub search-ends-there : (getD xs i 0 ≡ 0 → ⊥) → i ≤ place → i ≡ index Label-discrete (getD (labels xs) i (none-at 0)) (labels xs)
+  search-ends-there n b =
+      let e : place ≡ i = omega arith in
+      sym e ∙ search-ends n (ap (λ (k : ℕ). getD xs k 0) e)
 
 -- THE NUMBERING of the first i fields of a record over any type whose equality is decided; z is any element.
 pub record FieldsNumbered {A : Type 0} (d : Discrete A) (z : A) (xs : List A) (i largest number : ℕ) (digits : List ℕ) : Type 0 where

@@ -42,10 +42,13 @@ fn first_place(numbers: &[u32], i: usize) -> usize
         return i;
     }
     let mut place: usize = 0;
-    while numbers[place] != field {
+    while place < i {
+        if numbers[place] == field {
+            return place;
+        }
         place += 1;
     }
-    place
+    i
 }
 
 // The number of the pattern of one to six numbers: the number of the first pattern of that length, and for each field as many more as

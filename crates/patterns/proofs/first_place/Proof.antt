@@ -3,7 +3,7 @@ use Prim.Native.Nat.{_-_}
 use borrow.Author.Needs.{needs}
 use native.Mathlib.Omega.{arith}
 use Rattle.patterns.proofs.LabelLaws.{zero-place}
-use Rattle.patterns.proofs.PatternSteps.{Searched, search-starts, search-before, search-goes-on, search-ends}
+use Rattle.patterns.proofs.PatternSteps.{Searched, search-starts, search-goes-on, search-ends, search-ends-there}
 use Rattle.patterns.proofs.first_place.Statement.{statement}
 use Rattle.patterns.proofs.first_place.Tie as tie
 
@@ -31,20 +31,25 @@ mul-if2 c = search needs
 shared-slice-read-if2 : tie.Need-shared-slice-read-if2 Inv-loop μ-loop
 shared-slice-read-if2 c = search needs
 
+returns-2 : tie.Need-returns-2 Inv-loop μ-loop
+returns-2 c =
+    search-ends (c .before .before .before .loop .inv) (c .before .before .before .before .before .before .pre)
+    (c .before .before .before .before .if1 .left) (c .if2 .taken)
+
 add-place : tie.Need-add-place Inv-loop μ-loop
 add-place c = search needs
 
 loop-less : tie.Need-loop-less Inv-loop μ-loop
-loop-less c =
-    let b = search-before (c .before .before .loop .inv) (c .before .before .before .before .before .pre) (c .if2 .taken) in
-    omega arith
+loop-less c = search needs
 
 loop-again : tie.Need-loop-again Inv-loop μ-loop
-loop-again c = search-goes-on (c .before .before .loop .inv) (c .before .before .before .before .before .pre) (c .if2 .taken)
+loop-again c =
+    search-goes-on (c .before .before .before .loop .inv) (c .before .before .before .before .before .before .pre)
+    (c .before .before .loop-test .taken) (c .if2 .left)
 
-returns-2 : tie.Need-returns-2 Inv-loop μ-loop
-returns-2 c =
-    search-ends (c .before .before .loop .inv) (c .before .before .before .before .before .pre) (c .before .before .before .if1 .left) (c .if2 .left)
+returns-3 : tie.Need-returns-3 Inv-loop μ-loop
+returns-3 c =
+    search-ends-there (c .before .loop .inv) (c .before .before .before .before .pre) (c .before .before .if1 .left) (c .loop-test .left)
 
 pub first-place-spec : {M : Type 1} → statement M
 first-place-spec =
@@ -58,7 +63,8 @@ first-place-spec =
     loop-holds
     mul-if2
     shared-slice-read-if2
+    returns-2
     add-place
     loop-less
     loop-again
-    returns-2)
+    returns-3)
