@@ -1,0 +1,3 @@
+-- What inner functions promise each other. No public contract cites this.
+pub mod Puts
+pub mod Text
