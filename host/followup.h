@@ -1,11 +1,11 @@
-/* Follow-up sheets: reading, writing, judging and carrying them out, and what that comes to at most, from C99 or C++. Link with
- * libfollowup.a, which is built for x86-64 Linux (ELF, System V ABI, 64-bit pointers) and uses the C library's memcpy and memset and
- * nothing else.
+/* Follow-up sheets: reading, writing, judging, explaining and carrying them out, and what that comes to at most, from C99 or C++. Link
+ * with libfollowup.a, which is built for x86-64 Linux (ELF, System V ABI, 64-bit pointers) and uses the C library's memcpy and memset
+ * and nothing else.
  *
  * A sheet is a text; followup_judge_text says of it whether the follow-ups come to rest. In two steps: followup_read turns the text
- * into lines, eight numbers each, and followup_judge judges those lines. followup_carry carries the rules out on such lines and gives
- * the records themselves; followup_forecast says beforehand how many values, records and firings there are at most. The caller lends
- * all memory.
+ * into lines, eight numbers each, and followup_judge judges those lines. followup_explain says in sentences by which steps an endless
+ * sheet never comes to rest. followup_carry carries the rules out on such lines and gives the records themselves; followup_forecast says
+ * beforehand how many values, records and firings there are at most. The caller lends all memory.
  *
  * Numbers. Lent lines, fields and records are u32, lent steps are u16, each as its bytes, lowest first. A last part too short for
  * a number (up to 3 bytes of lines, fields or records, 1 byte of steps) counts as none and is never changed.
@@ -47,10 +47,10 @@ extern "C" {
 #define FOLLOWUP_VERSION 1
 
 /* Stack that suffices for a thread that makes any of the calls. test.c makes them on a stack of that size, filled with one byte
- * value, and looks how much of it has changed at the end: 266,202 bytes with the forecast, 263,512 with carrying out, 245,370 with
- * judging, 222,010 with judging a text, 109,976 with reading, 80,856 with writing, 4,464 with none (gcc -O2, glibc). So no call needs
- * 256 KiB itself. Some C libraries give a thread less where nothing is asked for (musl: 128 KiB); there set the size of its
- * stack (pthread_attr_setstacksize). */
+ * value, and looks how much of it has changed at the end: 266,234 bytes with the forecast, 263,544 with carrying out, 249,594 with
+ * explaining, 245,402 with judging, 222,042 with judging a text, 110,008 with reading, 80,888 with writing, 4,464 with none (gcc -O2,
+ * glibc). So no call needs 256 KiB itself. Some C libraries give a thread less where nothing is asked for (musl: 128 KiB); there set
+ * the size of its stack (pthread_attr_setstacksize). */
 #define FOLLOWUP_STACK ((size_t)264 * 1024)
 
 /* Limits of a text and of a sheet. */
@@ -77,6 +77,7 @@ extern "C" {
 #define FOLLOWUP_SHEET_LINES_BYTES ((size_t)FOLLOWUP_SHEET_LINES * FOLLOWUP_LINE_BYTES) /* 75,776 */
 #define FOLLOWUP_STEPS_BYTES ((size_t)FOLLOWUP_STEPS * FOLLOWUP_STEP_BYTES)             /* 40,960: enough for judging */
 #define FOLLOWUP_RECORDS_BYTES ((size_t)FOLLOWUP_RECORDS * FOLLOWUP_LINE_BYTES)         /* 131,072: enough for carrying out */
+#define FOLLOWUP_SENTENCES_MAX 299008                                                   /* enough for explaining: 4,096 sentences of 73 bytes */
 
 /* What the forecast gives for a figure over 4,294,967,295. It is more than any u32, so that comparing a figure with one's room needs no
  * other test. */
@@ -84,23 +85,25 @@ extern "C" {
 
 /* Refusals. Lines count from 1; the line is 0 where none is named. What is said of read holds of judge_text too, but for 7. */
 enum {
-    FOLLOWUP_GOOD = 0,           /* no refusal */
-    FOLLOWUP_TEXT_LONG = 1,      /* read, write: the text is, or would be, over 32,768 bytes; line 0 */
-    FOLLOWUP_FORM_WRONG = 2,     /* read: a line is not in the form, or has no final byte 10 */
-    FOLLOWUP_OUT_OF_PLACE = 3,   /* read: a line is out of place; a rule without H at the end, with the line after the last */
-    FOLLOWUP_KIND_WRONG = 4,     /* read: kind or width outside its range or order, kind not declared, or a line not as wide as its kind */
-    FOLLOWUP_MARK_WRONG = 5,     /* read: a mark is not 1 to 12, or skips one */
-    FOLLOWUP_TOO_MANY = 6,       /* read: a rule, an H line or a row too many */
-    FOLLOWUP_LINES_SHORT = 7,    /* read: more lines than were lent, with the first that does not fit */
-    FOLLOWUP_LINE_WRONG = 8,     /* write, judge, forecast, carry: the lent lines are no sheet, with the first wrong line */
-    FOLLOWUP_TEXT_SHORT = 9,     /* write: the lent text is too short; line 0 */
-    FOLLOWUP_FIELD_COUNT = 10,   /* pattern: no field, or more than six; line 0 */
-    FOLLOWUP_SHAPES_OVER = 11,   /* judge, judge_text, forecast, carry: the reachable records show more than 512 shapes; line 0 */
-    FOLLOWUP_STEPS_SHORT = 12,   /* judge, judge_text: fewer than 4,096 steps are lent; line 0 */
-    FOLLOWUP_RECORDS_SHORT = 12, /* carry: room for fewer than 4,096 records is lent; line 0 */
-    FOLLOWUP_SHEET_ENDLESS = 21, /* forecast, carry: the sheet is endless; line 0 */
-    FOLLOWUP_RECORDS_OVER = 22,  /* carry: more than 4,096 records are reachable; line 0 */
-    FOLLOWUP_NUMBER_OVER = 23    /* carry: a number over 99,999,999 would be needed, for a 0 of the table or a fresh mark; line 0 */
+    FOLLOWUP_GOOD = 0,            /* no refusal */
+    FOLLOWUP_TEXT_LONG = 1,       /* read, write: the text is, or would be, over 32,768 bytes; line 0 */
+    FOLLOWUP_FORM_WRONG = 2,      /* read: a line is not in the form, or has no final byte 10 */
+    FOLLOWUP_OUT_OF_PLACE = 3,    /* read: a line is out of place; a rule without H at the end, with the line after the last */
+    FOLLOWUP_KIND_WRONG = 4,      /* read: kind or width outside its range or order, kind not declared, or a line not as wide as its kind */
+    FOLLOWUP_MARK_WRONG = 5,      /* read: a mark is not 1 to 12, or skips one */
+    FOLLOWUP_TOO_MANY = 6,        /* read: a rule, an H line or a row too many */
+    FOLLOWUP_LINES_SHORT = 7,     /* read: more lines than were lent, with the first that does not fit */
+    FOLLOWUP_LINE_WRONG = 8,      /* write, judge, explain, forecast, carry: the lent lines are no sheet, with the first wrong line */
+    FOLLOWUP_TEXT_SHORT = 9,      /* write: the lent text is too short; line 0 */
+    FOLLOWUP_FIELD_COUNT = 10,    /* pattern: no field, or more than six; line 0 */
+    FOLLOWUP_SHAPES_OVER = 11,    /* judge, judge_text, explain, forecast, carry: the reachable records show more than 512 shapes; line 0 */
+    FOLLOWUP_STEPS_SHORT = 12,    /* judge, judge_text: fewer than 4,096 steps are lent; line 0 */
+    FOLLOWUP_RECORDS_SHORT = 12,  /* carry: room for fewer than 4,096 records is lent; line 0 */
+    FOLLOWUP_SHEET_ENDLESS = 21,  /* forecast, carry: the sheet is endless; line 0 */
+    FOLLOWUP_RECORDS_OVER = 22,   /* carry: more than 4,096 records are reachable; line 0 */
+    FOLLOWUP_NUMBER_OVER = 23,    /* carry: a number over 99,999,999 would be needed, for a 0 of the table or a fresh mark; line 0 */
+    FOLLOWUP_SHEET_SETTLES = 24,  /* explain: the sheet settles; line 0 */
+    FOLLOWUP_SENTENCES_SHORT = 25 /* explain: the lent text is too short for the sentences; line 0 */
 };
 
 /* Verdicts. */
@@ -109,11 +112,11 @@ enum {
     FOLLOWUP_ENDLESS = 2  /* for every n, some list of firings makes a number of a later generation than n */
 };
 
-/* What reading, writing and finding a pattern answer. */
+/* What reading, writing, explaining and finding a pattern answer. */
 struct followup_reply {
     uint32_t refusal; /* 0: good; otherwise the refusal's number */
     size_t line;      /* the line that a refusal names; 0 where none, and in a good answer */
-    size_t count;     /* read: lines read; write: bytes written; pattern: its number, 1 to 278; 0 on a refusal */
+    size_t count;     /* read: lines read; write, explain: bytes written; pattern: its number, 1 to 278; 0 on a refusal */
 };
 
 /* What judging answers. All figures but refusal and line are 0 on a refusal. */
@@ -181,6 +184,7 @@ struct followup_reply FOLLOWUP_EXPORTED(followup_write)(const uint8_t *lines, si
 struct followup_reply FOLLOWUP_EXPORTED(followup_pattern)(const uint8_t *fields, size_t fields_len);
 struct followup_judge_reply FOLLOWUP_EXPORTED(followup_judge)(const uint8_t *lines, size_t lines_len, uint8_t *steps, size_t steps_len);
 struct followup_judge_reply FOLLOWUP_EXPORTED(followup_judge_text)(const uint8_t *text, size_t text_len, uint8_t *steps, size_t steps_len);
+struct followup_reply FOLLOWUP_EXPORTED(followup_explain)(const uint8_t *lines, size_t lines_len, uint8_t *text, size_t text_len);
 struct followup_forecast_reply FOLLOWUP_EXPORTED(followup_forecast)(const uint8_t *lines, size_t lines_len);
 struct followup_carry_reply FOLLOWUP_EXPORTED(followup_carry)(const uint8_t *lines, size_t lines_len, uint8_t *records, size_t records_len);
 struct followup_step FOLLOWUP_EXPORTED(followup_step_at)(const uint8_t *steps, size_t steps_len, size_t k);
@@ -226,6 +230,20 @@ static inline struct followup_judge_reply followup_judge_text(const uint8_t *tex
 {
     uint8_t none = 0;
     return FOLLOWUP_EXPORTED(followup_judge_text)(text_len ? text : &none, text_len, steps_len ? steps : &none, steps_len);
+}
+
+/* Explains why an endless sheet, in lent lines of 32 bytes each as reading gives them, never comes to rest: writes a sentence for each
+ * step that followup_judge gives for the same lines, the trail's first and then the loop's, as in
+ *   Rule 1, H line 1: kind 1 field 2 to kind 3 field 1, fresh, loop.
+ * The numbers are decimal and not padded: the rule, the H line within it, the kind of the rule's B line and the from field, the kind of
+ * that H line and the to field. Then the step is called fresh, carried or reaching, the last where both fields are 0, and trail or loop.
+ * Byte 10 ends each sentence; no byte 0 ends the text. Other steps, or a trail that ends elsewhere, give another text, so that it leads
+ * back to them. No steps are lent. FOLLOWUP_SENTENCES_MAX bytes of text are always enough. A good call changes the first count bytes.
+ * Refusals: 8; 11; 24; 25. */
+static inline struct followup_reply followup_explain(const uint8_t *lines, size_t lines_len, uint8_t *text, size_t text_len)
+{
+    uint8_t none = 0;
+    return FOLLOWUP_EXPORTED(followup_explain)(lines_len ? lines : &none, lines_len, text_len ? text : &none, text_len);
 }
 
 /* Foretells of lent lines, 32 bytes each, as reading gives them, what carrying their rules out may come to, and does not carry them out.
@@ -303,6 +321,10 @@ static inline const char *followup_refusal_text(uint32_t refusal)
         return "The rules make more than 4,096 records, the rows among them.";
     case FOLLOWUP_NUMBER_OVER:
         return "A number over 99,999,999 would be needed, for a label that is not given or a fresh mark.";
+    case FOLLOWUP_SHEET_SETTLES:
+        return "The follow-ups come to rest, so that there is no loop to explain.";
+    case FOLLOWUP_SENTENCES_SHORT:
+        return "The sentences are longer than the lent memory.";
     default:
         return "There is no refusal of this number.";
     }

@@ -72,6 +72,9 @@ judge_tool() {
         done
         "$judge_file" --names examples/bank_day.names examples/bank_day_endless.sheet
         echo "exit status $?"
+        echo '2 batch' >"$work/one.names"
+        "$judge_file" --names "$work/one.names" examples/loop.sheet
+        echo "exit status $?"
         host/faults.sh "$judge_file"
         "$judge_file" --dot examples/loop.sheet
         echo "exit status $?"
@@ -124,7 +127,7 @@ echo '#include "followup.h"
 int main(void) { return followup_version() == FOLLOWUP_VERSION; }' >"$work/number.c"
 gcc -std=c99 $warnings -I"$work/other" "$work/number.c" "$archive" -o "$work/number" || fail 'building with another number'
 "$work/number" || fail 'the number of another header'
-for call in 'read(0, 0, 0, 0)' 'write(0, 0, 0, 0)' 'pattern(0, 0)' 'judge(0, 0, 0, 0)' 'judge_text(0, 0, 0, 0)' 'forecast(0, 0)' 'carry(0, 0, 0, 0)' 'step_at(0, 0, 0)' 'line_span(0, 0, 0)'; do
+for call in 'read(0, 0, 0, 0)' 'write(0, 0, 0, 0)' 'pattern(0, 0)' 'judge(0, 0, 0, 0)' 'judge_text(0, 0, 0, 0)' 'explain(0, 0, 0, 0)' 'forecast(0, 0)' 'carry(0, 0, 0, 0)' 'step_at(0, 0, 0)' 'line_span(0, 0, 0)'; do
     echo "#include \"followup.h\"
 int main(void) { return (void)followup_$call, 0; }" >"$work/call.c"
     gcc -std=c99 $warnings -Ihost "$work/call.c" "$archive" -o "$work/call" || fail "building with followup_$call"
@@ -138,7 +141,7 @@ grep -E ' [BbCcDdGgSs] ' "$work/symbols" && fail 'the archive holds memory that 
 grep ' U ' "$work/symbols" | grep -vE ' U (memcpy|memset)$' && fail 'the archive uses more than memcpy and memset'
 echo 'host: the archive holds no memory of its own and uses memcpy and memset alone'
 
-tests='host/test.c host/test_calls.c host/test_sheets.c host/test_carry.c host/test_forecast.c host/check_steps.c host/check_records.c host/check_figures.c'
+tests='host/test.c host/test_calls.c host/test_sheets.c host/test_explain.c host/test_carry.c host/test_forecast.c host/check_steps.c host/check_sentences.c host/check_records.c host/check_figures.c'
 build test $tests
 "$work/test" || fail 'the test'
 build test_sanitized $tests $sanitizers

@@ -2,6 +2,7 @@
 #define _DEFAULT_SOURCE
 #include "check_steps.h"
 #include "test_carry.h"
+#include "test_explain.h"
 #include "test_forecast.h"
 
 #include <pthread.h>
@@ -91,14 +92,15 @@ static void try_judge_text(const struct job *judged)
     check(same_reply(&job, judged) && memcmp(result, steps, size) == 0, "the text is judged as its lines are");
 }
 
-/* Carries the lines out and foretells of them. */
-static void try_run(const struct job *judged)
+/* Explains the lines, carries them out and foretells of them; `result` has the steps of judging. */
+static void try_others(const struct job *judged)
 {
+    try_explain(judged);
     struct job carried = try_carry(judged);
     try_forecast(judged, &carried);
 }
 
-/* Judges the lines and, where it is not long, the text; carries the lines out, and foretells of them. */
+/* Judges the lines and, where it is not long, the text; explains the lines, carries them out, and foretells of them. */
 static struct followup_judge_reply try_judge(void)
 {
     struct job job = try_call(JUDGE, lines, lines_size, FOLLOWUP_STEPS_BYTES + below(100));
@@ -109,7 +111,7 @@ static struct followup_judge_reply try_judge(void)
         check(job.said.shapes <= FOLLOWUP_SHAPES_MAX && job.said.fired <= FOLLOWUP_RULES_MAX && job.said.share <= 100, "figures in their range");
         check(steps_hold(lines, lines_size, result, &job.said), "row, trail, loop and steps are as document 01 says");
     }
-    try_run(&job);
+    try_others(&job);
     return job.said;
 }
 
@@ -129,7 +131,7 @@ static void judge_refuses(const char *name, uint32_t refusal, size_t line)
     subject = name;
     struct job job = try_call(JUDGE, lines, lines_size, FOLLOWUP_STEPS_BYTES);
     check(says(&job, refusal, line), "judging is refused");
-    try_run(&job);
+    try_others(&job);
 }
 
 static void write_refuses(const char *name, size_t lent_size, uint32_t refusal, size_t line)
@@ -173,14 +175,14 @@ static void try_header(void)
     check(followup_version() == FOLLOWUP_VERSION, "the archive's number is the header's");
     for (uint32_t refusal = 0; refusal <= 30; refusal++) {
         const char *words = followup_refusal_text(refusal);
-        int known = refusal <= 12 || (refusal >= 21 && refusal <= 23);
+        int known = refusal <= 12 || (refusal >= 21 && refusal <= 25);
         check(words[0] != 0 && (strcmp(words, followup_refusal_text(UINT32_MAX)) != 0) == known, "a sentence for each refusal, one for all other numbers");
         for (uint32_t other = 0; other < refusal && known; other++)
             check(strcmp(words, followup_refusal_text(other)) != 0, "and for each its own");
     }
     check(FOLLOWUP_RECORDS_SHORT == FOLLOWUP_STEPS_SHORT, "12 has two names");
     check(FOLLOWUP_TEXT_LINES_BYTES == 52416 && FOLLOWUP_SHEET_LINES_BYTES == 75776 && FOLLOWUP_STEPS_BYTES == 40960 &&
-              FOLLOWUP_RECORDS_BYTES == 131072,
+              FOLLOWUP_RECORDS_BYTES == 131072 && FOLLOWUP_SENTENCES_MAX == FOLLOWUP_STEPS * 73,
           "sizes");
     check(FOLLOWUP_BEYOND > UINT32_MAX && FOLLOWUP_BEYOND - 1 == UINT32_MAX, "beyond is one more than the largest u32");
     end_group();
@@ -726,6 +728,7 @@ static void try_small_stack(void)
     try_sheets();
     try_deep();
     try_line_limits();
+    try_explaining();
     try_carrying();
     try_forecasting();
     small_stack = 0;
@@ -736,9 +739,9 @@ static void try_small_stack(void)
     }
     snprintf(note, sizeof note,
              " (bytes used: %zu by a thread that calls nothing, %zu with reading, %zu with writing, %zu with judging, %zu with judging a text, "
-             "%zu with the forecast, %zu with carrying out)",
-             stack_used[NOTHING], stack_used[READ], stack_used[WRITE], stack_used[JUDGE], stack_used[JUDGE_TEXT], stack_used[FORECAST],
-             stack_used[CARRY]);
+             "%zu with explaining, %zu with the forecast, %zu with carrying out)",
+             stack_used[NOTHING], stack_used[READ], stack_used[WRITE], stack_used[JUDGE], stack_used[JUDGE_TEXT], stack_used[EXPLAIN],
+             stack_used[FORECAST], stack_used[CARRY]);
     end_group();
 }
 
@@ -848,7 +851,7 @@ static void random_sheet(void)
 static void try_random_sheets(void)
 {
     size_t total = 0, good = 0, endless = 0, deep = 0;
-    unsigned long runs = runs_checked;
+    unsigned long runs = runs_checked, texts = texts_checked;
     begin_group("random sheets");
     while (total < MILLION) {
         random_sheet();
@@ -861,8 +864,10 @@ static void try_random_sheets(void)
         deep += said.deepest > 1;
     }
     runs = runs_checked - runs;
-    check(good > 0 && endless > 0 && deep > 0 && runs > 0, "sheets of each sort");
-    snprintf(note, sizeof note, " (%zu judged, %zu endless, %zu deeper than 1, %lu carried out)", good, endless, deep, runs);
+    texts = texts_checked - texts;
+    check(good > 0 && endless > 0 && deep > 0 && runs > 0 && texts == endless, "sheets of each sort");
+    snprintf(note, sizeof note, " (%zu judged, %zu endless, %zu deeper than 1, %lu explained, %lu carried out)", good, endless, deep, texts,
+             runs);
     end_group();
 }
 
@@ -900,7 +905,7 @@ static void try_lines_with_writing(void)
         check(says(&judged, 8, wrote.said.line), "judging refuses the line that writing refuses");
     else
         check(says(&judged, 11, 0) || (judged.said.refusal == 0 && steps_hold(lines, lines_size, result, &judged.said)), "lines that writing takes are judged");
-    try_run(&judged);
+    try_others(&judged);
 }
 
 static void try_random_lines(void)
@@ -999,6 +1004,7 @@ int main(void)
     try_nothing();
     try_patterns();
     try_deep();
+    try_explaining();
     try_carrying();
     try_forecasting();
     try_small_stack();

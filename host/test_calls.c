@@ -160,6 +160,8 @@ void *make_call(void *arg)
         job->said = followup_judge(job->in, job->in_len, job->out, job->out_len);
     else if (job->call == JUDGE_TEXT)
         job->said = followup_judge_text(job->in, job->in_len, job->out, job->out_len);
+    else if (job->call == EXPLAIN)
+        keep_reply(job, followup_explain(job->in, job->in_len, job->out, job->out_len));
     else if (job->call == FORECAST)
         keep_forecast(job, followup_forecast(job->in, job->in_len));
     else if (job->call == CARRY)
@@ -196,12 +198,14 @@ size_t counted(const struct job *job)
         return 0;
     if (job->call == JUDGE || job->call == JUDGE_TEXT)
         return (job->said.trail + job->said.loop) * FOLLOWUP_STEP_BYTES;
-    return job->call == WRITE ? job->count : job->count * FOLLOWUP_LINE_BYTES;
+    return job->call == WRITE || job->call == EXPLAIN ? job->count : job->count * FOLLOWUP_LINE_BYTES;
 }
 
 /* Whether a refusal is one that the call can have, of those over 12. */
 static int can_refuse(enum call call, uint32_t refusal)
 {
+    if (call == EXPLAIN)
+        return refusal == 24 || refusal == 25;
     return call == CARRY ? refusal >= 21 && refusal <= 23 : call == FORECAST && refusal == 21;
 }
 

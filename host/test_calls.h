@@ -27,7 +27,7 @@ extern uint8_t result[RESULT_SIZE]; /* what the last call counted in its answer 
 
 void map_memory(void);
 
-enum call { NOTHING, READ, WRITE, PATTERN, JUDGE, JUDGE_TEXT, FORECAST, CARRY, STEP, CALLS };
+enum call { NOTHING, READ, WRITE, PATTERN, JUDGE, JUDGE_TEXT, EXPLAIN, FORECAST, CARRY, STEP, CALLS };
 
 struct job {
     enum call call;

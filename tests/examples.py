@@ -9,6 +9,8 @@ In docs/SHEETS.md the word after a block's opening fence says what the block is:
   answer                     what the program prints for the sheet or change before it; each of those has one
   answer FILE                what the program prints for the sheet FILE
   words FILE                 what host/judge_file.expected has for FILE
+  sentences FILE             what the explaining program, which stands beside PROGRAM, prints for the sheet FILE
+README.md shows examples/loop.sheet in the same words and sentences.
 Other blocks are not looked at. The tables of kinds, rules and rows are those of examples/bank_day.sheet with the names of bank_day.names.
 With --write the stored outputs and the answers are written anew; the words around them are for a person to mend.
 """
@@ -57,9 +59,18 @@ def write(name, text):
         f.write(text)
 
 
+def printed(program, text):
+    return subprocess.run([program], input=text.encode(), stdout=subprocess.PIPE).stdout.decode()
+
+
 def says(text):
     """What the program prints for a text."""
-    return subprocess.run([sys.argv[1]], input=text.encode(), stdout=subprocess.PIPE).stdout.decode()
+    return printed(sys.argv[1], text)
+
+
+def explained(sheet):
+    """What the explaining program prints for a sheet's file."""
+    return printed(os.path.join(os.path.dirname(sys.argv[1]), "explain"), read(sheet))
 
 
 def expect(what, good):
@@ -107,10 +118,12 @@ def page_blocks(writing):
     for k in range(1, len(parts), 3):
         info, body = parts[k : k + 2]
         words = info.split()
-        if words[:1] in (["answer"], ["words"]):
+        if words[:1] in (["answer"], ["words"], ["sentences"]):
             count += 1
             if words[0] == "words":
                 wanted = said_in_words(words[1])
+            elif words[0] == "sentences":
+                wanted = explained(words[1])
             elif len(words) == 2:
                 wanted = says(read(words[1]))
             else:
@@ -170,6 +183,8 @@ def main():
     answers = page_blocks(writing)
     for what, text, wanted in TOLD:
         expect("%s: the program prints %r" % (what, says(text)), says(text).startswith(wanted))
+    for told in (said_in_words("examples/loop.sheet"), explained("examples/loop.sheet")):
+        expect("README.md does not show %r" % told, "```\n%s```\n" % told in read("README.md"))
     bank_day()
     drawn = subprocess.run([sys.executable, os.path.join(ROOT, "docs", "figures", "draw.py"), "--check"], stdout=subprocess.PIPE)
     expect(drawn.stdout.decode().strip() or "draw.py failed", drawn.returncode == 0)

@@ -47,11 +47,16 @@ CONTRACTS = [
     ("growth/specs/Forecast.antt", "the forecast: the three figures of a sheet that settles"),
     ("growth/specs/Contract.antt", "the whole contract of the forecast: `ForecastMeets`"),
     ("forecasting/specs/Answer.antt", "the paper's numbers for the answers of the forecast"),
+    ("sentences/specs/Decimal.antt", "a number in decimal, unpadded"),
+    ("sentences/specs/Sentence.antt", "the sentence of a step, the text of a trail and a loop"),
+    ("sentences/specs/Explain.antt", "the whole contract of explaining: `ExplainMeets`"),
+    ("explaining/specs/Answer.antt", "the paper's numbers for the answers of explaining"),
     ("steps/specs/Showing.antt", "steps as records"),
     ("report/specs/Lines.antt", "a line of a letter and numbers, put into lent text"),
     ("report/specs/Report.antt", "what the judging program prints"),
     ("listing/specs/Listing.antt", "what the carrying program prints"),
     ("outlook/specs/Outlook.antt", "what the forecasting program prints"),
+    ("explanation/specs/Explanation.antt", "what the explaining program prints"),
     ("console/specs/Input.antt", "a program's input: how much of the buffer it fills"),
     ("followup/specs/Bytes.antt", "numbers as bytes"),
     ("followup/specs/Reply.antt", "the entry points for C"),
@@ -72,6 +77,7 @@ THEOREMS = [
     ("carrying/specs/Sheets.antt", "small sheets with their records and firings"),
     ("growth/specs/Counted.antt", "what the figures are said of: values, records and pairs of every run"),
     ("growth/specs/Sheets.antt", "small sheets with their figures"),
+    ("sentences/specs/Reader.antt", "how a text of sentences is read back"),
 ]
 
 

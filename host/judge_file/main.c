@@ -43,16 +43,31 @@ static int take_options(struct options *options, int argc, char **argv)
     return options->help || options->file != NULL;
 }
 
+/* Takes the library's sentences for an endless sheet. Answers 0 where they are refused, with that refusal in `said`. */
+static int take_sentences(void)
+{
+    struct followup_reply told =
+        followup_explain(sheet.lines, sheet.line_count * FOLLOWUP_LINE_BYTES, sheet.sentences, sizeof sheet.sentences);
+    sheet.sentences_size = told.count;
+    if (told.refusal != FOLLOWUP_GOOD)
+        sheet.said = (struct followup_judge_reply){.refusal = told.refusal, .line = told.line};
+    return told.refusal == FOLLOWUP_GOOD;
+}
+
 static int judge_text(int dot)
 {
     sheet.said = followup_judge_text(sheet.text, sheet.size, sheet.steps, sizeof sheet.steps);
     if (sheet.said.refusal != FOLLOWUP_GOOD)
         return say_refusal(&sheet);
     sheet.line_count = followup_read(sheet.text, sheet.size, sheet.lines, sizeof sheet.lines).count;
-    if (!dot)
-        return say_verdict(&sheet);
-    draw_steps(&sheet);
-    return sheet.said.verdict == FOLLOWUP_ENDLESS ? 1 : 0;
+    int endless = sheet.said.verdict == FOLLOWUP_ENDLESS;
+    if (dot) {
+        draw_steps(&sheet);
+        return endless ? 1 : 0;
+    }
+    if (endless && !take_sentences())
+        return say_refusal(&sheet);
+    return say_verdict(&sheet);
 }
 
 int main(int argc, char **argv)

@@ -17,6 +17,8 @@ struct sheet {
     size_t line_count;
     uint8_t steps[FOLLOWUP_STEPS_BYTES];
     struct followup_judge_reply said;       /* the judge's answer; with carry_file refusal and line alone */
+    uint8_t sentences[FOLLOWUP_SENTENCES_MAX]; /* the library's, of an endless sheet: a line for each step */
+    size_t sentences_size;
     char names[FOLLOWUP_KINDS_MAX + 1][NAME_SIZE]; /* a name for each kind; empty where none was given */
 };
 

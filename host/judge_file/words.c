@@ -3,9 +3,14 @@
 
 #include <string.h>
 
+static int named(const struct sheet *sheet, uint32_t kind)
+{
+    return kind <= FOLLOWUP_KINDS_MAX && sheet->names[kind][0] != 0;
+}
+
 void put_kind(FILE *out, const struct sheet *sheet, uint32_t kind)
 {
-    if (kind <= FOLLOWUP_KINDS_MAX && sheet->names[kind][0] != 0)
+    if (named(sheet, kind))
         fprintf(out, "%s (kind %u)", sheet->names[kind], (unsigned)kind);
     else
         fprintf(out, "kind %u", (unsigned)kind);
@@ -23,6 +28,40 @@ static void say_row(const struct sheet *sheet)
     printf(".\n");
 }
 
+/* A kind's name alone; its number where it has none. */
+static void put_name(const struct sheet *sheet, uint32_t kind)
+{
+    if (named(sheet, kind))
+        printf("%s", sheet->names[kind]);
+    else
+        printf("kind %u", (unsigned)kind);
+}
+
+/* The library's sentence for step k, without its line feed. */
+static void put_sentence(const struct sheet *sheet, size_t k)
+{
+    struct followup_span span = followup_line_span(sheet->sentences, sheet->sentences_size, k + 1);
+    for (size_t at = span.start; at + 1 < span.end; at++)
+        putchar(sheet->sentences[at]);
+}
+
+/* A step of an endless sheet: the library's sentence, then where the rule's B line and the H line stand, and the kinds' names. */
+static void tell_step(const struct sheet *sheet, size_t k)
+{
+    struct step_lines at = step_lines(sheet, k);
+    printf("  %zu. ", k + 1);
+    put_sentence(sheet, k);
+    printf(" (lines %zu and %zu", at.body, at.head);
+    if (named(sheet, at.fired_on) || named(sheet, at.made)) {
+        printf(": ");
+        put_name(sheet, at.fired_on);
+        printf(" to ");
+        put_name(sheet, at.made);
+    }
+    printf(")\n");
+}
+
+/* A step of a sheet that settles, of which the library has no sentences. */
 static void say_step(const struct sheet *sheet, size_t k)
 {
     struct step_lines at = step_lines(sheet, k);
@@ -46,7 +85,10 @@ static void say_steps(const struct sheet *sheet, const char *title, size_t first
 {
     printf("%s (%zu step%s):\n", title, count, count == 1 ? "" : "s");
     for (size_t k = first; k < first + count; k++)
-        say_step(sheet, k);
+        if (sheet->said.verdict == FOLLOWUP_ENDLESS)
+            tell_step(sheet, k);
+        else
+            say_step(sheet, k);
 }
 
 int say_verdict(const struct sheet *sheet)

@@ -37,7 +37,17 @@ pub fn judge(numbers: &[u32], lent_steps: usize) -> Result<Verdict, Refusal> {
         line: 0,
     })?;
     let parts = components(&graph);
-    let mut verdict = Verdict {
+    let mut verdict = counts(&sheet, &graph);
+    match fresh_inside(&graph, &parts) {
+        Some((node, link)) => show_loop(&graph, &parts, node, link, &mut verdict),
+        None => show_deepest(&graph, &parts, &mut verdict),
+    }
+    Ok(verdict)
+}
+
+/// An answer that has its counts only.
+fn counts(sheet: &Sheet, graph: &Graph) -> Verdict {
+    Verdict {
         endless: false,
         deepest: 0,
         shapes: graph.shapes.len(),
@@ -47,11 +57,18 @@ pub fn judge(numbers: &[u32], lent_steps: usize) -> Result<Verdict, Refusal> {
         trail: 0,
         turns: 0,
         steps: Vec::new(),
-    };
-    match fresh_inside(&graph, &parts) {
-        Some((node, link)) => show_loop(&graph, &parts, node, link, &mut verdict),
-        None => show_deepest(&graph, &parts, &mut verdict),
     }
+}
+
+/// The answer for an endless sheet; 11 where more than 512 shapes are reached, 24 where the
+/// sheet settles.
+pub(crate) fn endless(sheet: &Sheet) -> Result<Verdict, Refusal> {
+    let refusal = |number| Refusal { number, line: 0 };
+    let graph = explore(sheet).ok_or(refusal(11))?;
+    let parts = components(&graph);
+    let (node, link) = fresh_inside(&graph, &parts).ok_or(refusal(24))?;
+    let mut verdict = counts(sheet, &graph);
+    show_loop(&graph, &parts, node, link, &mut verdict);
     Ok(verdict)
 }
 

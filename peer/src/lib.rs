@@ -1,8 +1,10 @@
-//! Follow-up sheets, read, judged, carried out and forecast once more: an implementation of
-//! its own, written from the scope document and the published algorithm, to compare with.
+//! Follow-up sheets, read, judged, explained, carried out and forecast once more: an
+//! implementation of its own, written from the scope document and the published algorithm, to
+//! compare with.
 
 pub mod carry;
 pub mod chase;
+pub mod explain;
 pub mod forecast;
 pub mod judge;
 pub mod layout;
@@ -16,6 +18,7 @@ pub mod verify_run;
 
 pub use carry::{carry, Run};
 pub use chase::{chase, Chased};
+pub use explain::{explain, read_back, text_of_steps, Told, MOST_EXPLAINED};
 pub use forecast::{forecast, Figure, Forecast};
 pub use judge::{judge, judge_text, Verdict};
 pub use layout::{line_span, pattern, read, write, Line, Refusal};

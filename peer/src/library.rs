@@ -1,6 +1,6 @@
 //! The proved library through its entry points for C, as safe functions on bytes.
 
-/// What reading, writing and finding a pattern answer: refusal 0 and a count,
+/// What reading, writing, explaining and finding a pattern answer: refusal 0 and a count,
 /// or a refusal with its number and line.
 #[repr(C)]
 #[derive(Clone, Copy, Debug, PartialEq, Eq)]
@@ -93,6 +93,12 @@ extern "C" {
         steps: *mut u8,
         steps_len: usize,
     ) -> JudgeReply;
+    fn followup_explain_v1(
+        lines: *const u8,
+        lines_len: usize,
+        text: *mut u8,
+        text_len: usize,
+    ) -> Reply;
     fn followup_carry_v1(
         lines: *const u8,
         lines_len: usize,
@@ -130,6 +136,11 @@ pub fn judge(lines: &[u8], steps: &mut [u8]) -> JudgeReply {
 /// Judges a text; steps are ten bytes each.
 pub fn judge_text(text: &[u8], steps: &mut [u8]) -> JudgeReply {
     unsafe { followup_judge_text_v1(text.as_ptr(), text.len(), steps.as_mut_ptr(), steps.len()) }
+}
+
+/// Explains lent lines, 32 bytes each, in a lent text.
+pub fn explain(lines: &[u8], text: &mut [u8]) -> Reply {
+    unsafe { followup_explain_v1(lines.as_ptr(), lines.len(), text.as_mut_ptr(), text.len()) }
 }
 
 /// Carries lent lines out, 32 bytes each; records are 32 bytes each too.

@@ -14,7 +14,7 @@ use Rattle.followup.proofs.Truncated.{sheet-truncated}
 
 -- What is right for some numbers is right for all that hold the same sheet.
 module _ (limit : ℕ) (ms ns : List ℕ) (e : sheetHeld ns ≡ sheetHeld ms) where
-  taken-same : (ls : List Line) → Taken limit ms ls → Taken limit ns ls
+  pub taken-same : (ls : List Line) → Taken limit ms ls → Taken limit ns ls
   taken-same ls t = record { sheet = e ∙ t .sheet; shapes = t .shapes; counted = t .counted; within = t .within }
 
   refuses-same : (n k : ℕ) → Refuses limit ms n k → Refuses limit ns n k

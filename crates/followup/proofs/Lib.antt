@@ -10,3 +10,4 @@ pub mod StepAt
 pub mod RecordBytes
 pub mod TextLaws
 pub mod ForecastLaws
+pub mod ExplainLaws

@@ -113,24 +113,24 @@ text-short text before r b h says = unchanged (TextMeets (textRead text) (number
 -- ---- other lines
 
 -- What is right for some numbers is right for all that hold the same sheet.
+abbrev pub right-same : (ms ns before now : List ℕ) (v : Verdict) → sheetHeld ns ≡ sheetHeld ms → Right shapeLimit ms before v now → Right shapeLimit ns before v now
+right-same ms ns before now v e right =
+    record {
+      lines = right .lines;
+      sheet = e ∙ right .sheet;
+      shapes = right .shapes;
+      within = right .within;
+      fired = right .fired;
+      share-is = right .share-is;
+      steps = right .steps;
+      count = right .count;
+      room = right .room;
+      held = right .held;
+      answer = right .answer;
+    }
+
 meets-same : (ms ns before now : List ℕ) (j : Judgement) → sheetHeld ns ≡ sheetHeld ms → JudgeMeets shapeLimit ms before j now → JudgeMeets shapeLimit ns before j now
-meets-same ms ns before now (judged v) e m =
-    let right = m .1 in (
-      m .0,
-      record {
-        lines = right .lines;
-        sheet = e ∙ right .sheet;
-        shapes = right .shapes;
-        within = right .within;
-        fired = right .fired;
-        share-is = right .share-is;
-        steps = right .steps;
-        count = right .count;
-        room = right .room;
-        held = right .held;
-        answer = right .answer;
-      },
-    )
+meets-same ms ns before now (judged v) e m = (m .0, right-same ms ns before now v e (m .1))
 meets-same ms ns before now (refuses n k) e m = (go n k (m .0), m .1)
   where
     go : (n k : ℕ) → Refuses shapeLimit ms before n k → Refuses shapeLimit ns before n k

@@ -14,6 +14,7 @@ use Rattle.chase.specs.Judge.{Judgement, judged, refuses, JudgeMeets, stepLimit
 use Rattle.carrying.specs.Contract.{Carried, carried, refuses as refusesToCarry, CarryMeets}
 use Rattle.growth.specs.Forecast.{Figure, exactly, beyond}
 use Rattle.growth.specs.Contract.{Foretold, foretold, refuses as refusesToForetell, ForecastMeets}
+use Rattle.sentences.specs.Explain.{Explained, explained, refuses as refusesToExplain, ExplainMeets}
 use Rattle.steps.specs.Showing.{shownAt}
 use Rattle.walker.specs.Walk.{spanStart, lineStart}
 use Rattle.steps.specs.declared.StepRecord.{StepRecord}
@@ -131,6 +132,18 @@ pub record ForecastsBytes (lines : List ℕ) (r : ForecastReply) : Type 0 where
   pub answer : Foretold
   pub meets : ForecastMeets shapeLimit (numbersOf 4 lines) answer
   pub replies : ForecastReplies answer r
+
+-- Sentences that stand in the lent text have refusal 0 and line 0, and the count is that of their bytes; a refusal has count 0.
+abbrev pub ExplainReplies : Explained → Reply → Type 0
+ExplainReplies (explained n) r = (r .refusal ≡ 0) × (r .line ≡ 0) × (r .count ≡ n)
+ExplainReplies (refusesToExplain number line) r = (r .refusal ≡ number) × (r .line ≡ line) × (r .count ≡ 0)
+
+-- Explaining, for all bytes of lent lines and all lent text.
+pub record ExplainsBytes (lines before : List ℕ) (r : Reply) (after : List ℕ) : Type 0 where
+  pub answer : Explained
+  pub meets : ExplainMeets shapeLimit (numbersOf 4 lines) before answer after
+  pub replies : ExplainReplies answer r
+  pub kept : Kept (r .refusal) before after
 
 -- Step k of the numbers that the bytes hold, counted from 0; all zeros where there is none.
 abbrev pub stepReply : StepRecord → StepReply

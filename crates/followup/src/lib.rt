@@ -16,10 +16,12 @@ ghost use Rattle.running.specs.Answer.{carryRefusalNumber, carryRefusalLine};
 ghost use Rattle.running.specs.inner.Carry.{Settled};
 ghost use Rattle.steps.specs.Showing.{shownAt};
 ghost use Rattle.forecasting.specs.Answer.{figureOf, forecastSays};
+ghost use Rattle.explaining.specs.Answer.{explainSays};
 ghost use Rattle.followup.specs.Bytes.{numbersOf};
-ghost use Rattle.followup.specs.Reply.{version, Replies, ReadsBytes, WritesBytes, FindsPattern, JudgeReplies, JudgesNumbers, JudgesBytes, JudgesText, CarryReplies, CarriesNumbers, CarriesBytes, figureNumber, ForecastReplies, ForecastsBytes, ShowsStep, FindsLine};
+ghost use Rattle.followup.specs.Reply.{version, Replies, ReadsBytes, WritesBytes, FindsPattern, JudgeReplies, JudgesNumbers, JudgesBytes, JudgesText, CarryReplies, CarriesNumbers, CarriesBytes, figureNumber, ForecastReplies, ForecastsBytes, ExplainReplies, ExplainsBytes, ShowsStep, FindsLine};
 ghost use Rattle.followup.specs.inner.Numbers.{ReadsNumbers};
 ghost use Rattle.followup.specs.inner.First.{FirstSays};
+use explaining::ExplainAnswer;
 use forecasting::Figure;
 use forecasting::ForecastAnswer;
 use judging::Figures;
@@ -31,7 +33,7 @@ use sheet::ReadAnswer;
 use sheet::Refusal;
 use sheet::WriteAnswer;
 
-// What reading, writing and finding a pattern answer: refusal 0 and a count, or a refusal with its number and line.
+// What reading, writing, finding a pattern and explaining answer: refusal 0 and a count, or a refusal with its number and line.
 #[repr(C)]
 pub struct Reply {
     pub refusal: u32,
@@ -428,6 +430,28 @@ fn forecast_lines(lines: &[u8], numbers: &mut [u32]) -> ForecastReply
     forecast_reply(forecasting::forecast(&numbers[..count]))
 }
 
+// What explaining answers, as a reply.
+fn explain_reply(answer: ExplainAnswer) -> Reply
+    ensures { λ r. ⌜ ExplainReplies (explainSays answer) r ⌝ }
+{
+    match answer {
+        ExplainAnswer::Bytes(size) => counts(size),
+        ExplainAnswer::Refused(refusal) => {
+            let said = explaining::refusal_numbers(refusal);
+            no_count(said.number as u32, said.line)
+        }
+    }
+}
+
+// Explains lines, with room for their numbers.
+fn explain_lines(lines: &[u8], numbers: &mut [u32], text: &mut [u8]) -> Reply
+    requires { ⌜ min (length (now lines) / 4) 18952 ≤ length (now numbers) ⌝ }
+    ensures { λ r. ⌜ ExplainsBytes (now (lines .entry)) (now (text .entry)) r (now (text .exit)) ⌝ }
+{
+    let count = decode_lines(lines, numbers);
+    explain_reply(explaining::explain(&numbers[..count], text))
+}
+
 // The numbers of step k, counted from 0; five zeros where the bytes hold none.
 fn step_numbers(steps: &[u8], k: usize) -> [u16; 5]
     ensures { λ r. ⌜ (length r ≡ 5) × (shownAt r 0 ≡ shownAt (numbersOf 2 (now (steps .entry))) k) ⌝ }
@@ -555,6 +579,19 @@ pub extern "C" fn followup_forecast_v1(lines: &[u8]) -> ForecastReply
     }
     let mut few = room_for_few_lines();
     forecast_lines(lines, &mut few)
+}
+
+// Writes the sentences of an endless sheet as text: one for each step of its trail and its loop. The lines are lent, 32 bytes each. A good call changes the bytes that it counts and nothing else; a refusal changes nothing.
+#[no_mangle]
+pub extern "C" fn followup_explain_v1(lines: &[u8], text: &mut [u8]) -> Reply
+    ensures { λ r. ⌜ ExplainsBytes (now (lines .entry)) (now (text .entry)) r (now (text .exit)) ⌝ }
+{
+    if lines.len() / 4 > 2048 {
+        let mut many = room_for_lines();
+        return explain_lines(lines, &mut many, text);
+    }
+    let mut few = room_for_few_lines();
+    explain_lines(lines, &mut few, text)
 }
 
 // Step k of lent steps, counted from 0; all zeros where they hold none.

@@ -1,15 +1,16 @@
 //! Times the proved library against the peer on the same inputs in one run, reading
-//! and judging apart, and prints a table; then carrying out and forecasting, with rows and
-//! rules in three orders; then judging as shapes and rules grow.
+//! and judging apart, and prints a table; then explaining; then carrying out and forecasting,
+//! with rows and rules in three orders; then judging as shapes and rules grow.
 //!
-//!     bench [--svg FILE] [--quick] [--carrying] [--forecasting]
+//!     bench [--svg FILE] [--quick] [--explaining] [--carrying] [--forecasting]
 //!
-//! `--svg` also draws the times by the number of rules and of shapes. `--carrying` prints the
-//! table of carrying out alone, `--forecasting` those of forecasting alone.
+//! `--svg` also draws the times by the number of rules and of shapes. `--explaining` prints the
+//! table of explaining alone, `--carrying` that of carrying out, `--forecasting` those of
+//! forecasting.
 
 #[path = "bench/chart.rs"]
 mod chart;
-#[allow(dead_code)] // reading, judging, carrying out and forecasting only
+#[allow(dead_code)] // reading, judging, explaining, carrying out and forecasting only
 #[path = "../library.rs"]
 mod library;
 #[path = "bench/timing.rs"]
@@ -21,8 +22,8 @@ use peer::random::sheets::Sheet;
 use peer::random::{carrying_series, forecasting_series, Random};
 use std::process::ExitCode;
 use std::{env, fs};
-use timing::{carry_times, forecast_times, forecast_to_judge, growing_times, judge_times};
-use timing::{read_times, Effort, Ready, Times};
+use timing::{carry_times, explain_times, forecast_times, forecast_to_judge, growing_times};
+use timing::{judge_times, read_times, Effort, Ready, Times};
 
 const SEED: u64 = 7;
 
@@ -51,6 +52,29 @@ fn cells(times: Times) -> String {
         "{:.1} | {:.1} | {:.2}",
         times.library, times.peer, times.ratio
     )
+}
+
+/// Explaining: the sheets of judging that are endless.
+fn print_explaining(effort: &Effort) {
+    println!("\nExplaining: microseconds a sheet, judging it first; sentences: of all sheets of a");
+    println!("family that are endless, as the peer explains them.\n");
+    println!("| sheets | endless | sentences | library | peer | ratio |");
+    println!("|---|---:|---:|---:|---:|---:|");
+    for family in series::families(&mut Random::new(SEED)) {
+        let mut ready: Vec<Ready> = family.sheets.iter().map(Ready::new).collect();
+        ready.retain(|sheet| sheet.explained().is_some());
+        if ready.is_empty() {
+            continue;
+        }
+        let sentences: usize = ready.iter().filter_map(Ready::explained).sum();
+        let counts = format!("{} of {} | {sentences}", ready.len(), family.sheets.len());
+        let times = cells(explain_times(effort, &ready));
+        // The family that comes before "the same" settles and is not in this table.
+        let name = family
+            .name
+            .replace("the same", "512 shapes in 64 layers, 256 rules");
+        println!("| {name} | {counts} | {times} |");
+    }
 }
 
 const ORDERS: [Order; 3] = [Order::Along, Order::Shuffled, Order::Against];
@@ -324,6 +348,10 @@ fn main() -> ExitCode {
         repetitions: if quick { 5 } else { 25 },
         least: if quick { 500.0 } else { 3_000.0 },
     };
+    if words.iter().any(|word| word == "--explaining") {
+        print_explaining(&effort);
+        return ExitCode::SUCCESS;
+    }
     if words.iter().any(|word| word == "--carrying") {
         print_carrying(&effort);
         return ExitCode::SUCCESS;
@@ -333,6 +361,7 @@ fn main() -> ExitCode {
         return ExitCode::SUCCESS;
     }
     print_families(&effort);
+    print_explaining(&effort);
     print_carrying(&effort);
     print_forecasting(&effort);
     let growths = growths(&effort);

@@ -8,9 +8,12 @@
 //! carrying out and of forecasting come first. Exit status 1 on a difference, whose input is
 //! then written to a file.
 
+#[path = "compare/explaining.rs"]
+mod explaining;
 #[path = "../library.rs"]
 mod library;
 
+use explaining::Explained;
 use library::{CarryReply, ForecastReply, JudgeReply, Reply, Span, Step};
 use peer::random::{bytes_of, carrying, forecasting, zeros, Input, Random};
 use peer::{Figure, Forecast, Left, Line, Refusal, Run, Verdict};
@@ -113,6 +116,7 @@ struct Tally {
     written: [usize; 13],
     patterns: [usize; 13],
     judged: [usize; 13],
+    explained: Explained,
     carried: [usize; 24],
     records: usize,
     firings: usize,
@@ -247,8 +251,8 @@ fn compare_zeros(random: &mut Random, input: &Input, tally: &mut Tally) -> Resul
     let lines = lines_of(&numbers);
     tally.zeros.count_judged(lines, &answer);
     let given = zeros::all_different(random, lines);
-    let (said, steps) = judged(&numbers)?;
-    let (said_given, steps_given) = judged(given.as_flattened())?;
+    let (said, steps) = judged(&input.lines)?;
+    let (said_given, steps_given) = judged(&bytes_of(given.as_flattened()))?;
     // Row, trail and loop are the library's choice.
     let figures = |said: &JudgeReply| JudgeReply {
         row: 0,
@@ -268,9 +272,9 @@ fn compare_zeros(random: &mut Random, input: &Input, tally: &mut Tally) -> Resul
 }
 
 /// The library's judging, with the steps that it counts.
-fn judged(numbers: &[u32]) -> Result<(JudgeReply, Vec<u8>), String> {
+fn judged(lines: &[u8]) -> Result<(JudgeReply, Vec<u8>), String> {
     let mut steps = vec![0; ALL_STEPS];
-    let said = library::judge(&bytes_of(numbers), &mut steps);
+    let said = library::judge(lines, &mut steps);
     let counted = said.trail.saturating_add(said.turns).saturating_mul(10);
     if counted > ALL_STEPS {
         return Err("judge: more steps than lent".to_string());
@@ -355,12 +359,16 @@ fn compare_forecast(random: &mut Random, input: &Input, tally: &mut Tally) -> Re
         let left = left.map_err(|e| format!("forecast: not so: {e}"))?;
         tally.count_forecast(&forecast, left);
     }
-    compare_last_part(random, input)
+    let (lines, what) = other_end(random, &input.lines);
+    let peer = peer::forecast(&numbers_of(&lines));
+    let library = library::forecast(&lines);
+    same(&format!("forecast, {what}"), library, forecast_reply(&peer))
 }
 
-/// The same lines with some bytes less or more: the last line or its last number is not whole.
-fn compare_last_part(random: &mut Random, input: &Input) -> Result<(), String> {
-    let mut lines = input.lines.clone();
+/// The same lines with some bytes less or more, and how many: the last line or its last number
+/// is not whole.
+fn other_end(random: &mut Random, lines: &[u8]) -> (Vec<u8>, String) {
+    let mut lines = lines.to_vec();
     let part = random.between(1, 31);
     let less = random.chance(50);
     if less {
@@ -368,13 +376,8 @@ fn compare_last_part(random: &mut Random, input: &Input) -> Result<(), String> {
     } else {
         lines.extend(random.bytes(part));
     }
-    let peer = peer::forecast(&numbers_of(&lines));
-    let library = library::forecast(&lines);
-    let what = format!(
-        "forecast, {part} bytes {}",
-        if less { "less" } else { "more" }
-    );
-    same(&what, library, forecast_reply(&peer))
+    let what = if less { "less" } else { "more" };
+    (lines, format!("{part} bytes {what}"))
 }
 
 fn forecast_reply(peer: &Result<Forecast, Refusal>) -> ForecastReply {
@@ -532,7 +535,8 @@ fn compare(random: &mut Random, input: &Input, tally: &mut Tally) -> Result<(), 
     compare_forecast(random, input, tally)?;
     compare_zeros(random, input, tally)?;
     compare_text(random, input)?;
-    compare_lines(input)
+    compare_lines(input)?;
+    explaining::compare(random, input, &mut tally.explained)
 }
 
 impl Zeros {
@@ -681,7 +685,9 @@ impl fmt::Display for Tally {
              {} shares at a half, {} with zeros in rows; \
              carry {}; {} records by {} firings, {} times exactly 4,096 records; \
              forecast {}; {} with a figure beyond, {} times exactly 4,294,967,295, \
-             {} held to a run to the end, {} figures met exactly",
+             {} held to a run to the end, {} figures met exactly; \
+             explain {}; {} texts of {} sentences compared and read back, the longest of {} bytes, \
+             {} times too little lent",
             counts(&self.read),
             counts(&self.written),
             counts(&self.patterns),
@@ -700,6 +706,11 @@ impl fmt::Display for Tally {
             self.largest,
             self.ended,
             self.met.iter().sum::<usize>(),
+            counts(&self.explained.sheets),
+            self.explained.texts,
+            self.explained.sentences,
+            self.explained.longest,
+            self.explained.too_short,
         )
     }
 }

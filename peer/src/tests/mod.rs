@@ -2,6 +2,7 @@ mod answers;
 mod carry;
 mod carrying;
 mod common;
+mod explain;
 mod forecast;
 mod forecasting;
 mod generator;

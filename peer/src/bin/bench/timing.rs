@@ -1,5 +1,5 @@
-//! Times of reading, judging, carrying out and forecasting, by the library and by the peer, in
-//! turn on the same sheets.
+//! Times of reading, judging, explaining, carrying out and forecasting, by the library and by
+//! the peer, in turn on the same sheets.
 //! Inputs and lent memory are ready before; lent memory is not cleared between calls. Times
 //! are this thread's processor time, so that other work on the machine counts little.
 
@@ -55,6 +55,12 @@ impl Ready {
     pub fn good(&self) -> bool {
         let read = peer::read(&self.text, self.numbers.len() / 8);
         read.is_ok() && peer::judge(&self.numbers, STEPS / 2).is_ok()
+    }
+
+    /// How many steps the peer shows of an endless sheet; none where it settles.
+    pub fn explained(&self) -> Option<usize> {
+        let verdict = peer::judge(&self.numbers, STEPS / 2).ok()?;
+        verdict.endless.then_some(verdict.steps.len())
     }
 
     /// The peer's run; none where it is refused.
@@ -150,6 +156,23 @@ pub fn judge_times(effort: &Effort, sheets: &[Ready]) -> Times {
         },
         |sheet| {
             let _ = black_box(peer::judge(black_box(&sheet.numbers), STEPS / 2));
+        },
+    )
+}
+
+/// Each has a text of its own that is long enough for any sheet.
+pub fn explain_times(effort: &Effort, sheets: &[Ready]) -> Times {
+    let mut lent = vec![0; peer::MOST_EXPLAINED];
+    let mut lent_to_peer = lent.clone();
+    times(
+        effort,
+        sheets,
+        |sheet| {
+            black_box(library::explain(black_box(&sheet.lines), &mut lent));
+        },
+        |sheet| {
+            let numbers = black_box(&sheet.numbers);
+            let _ = black_box(peer::explain(numbers, &mut lent_to_peer));
         },
     )
 }
