@@ -2,7 +2,7 @@
 use mathlib.Core.Path.{_≡_, refl, sym, ap, subst, _∙_}
 use mathlib.Core.Logic.{_⊎_, inl, inr}
 use mathlib.Core.List.{List, [], _∷_, _++_}
-use Prim.Native.Nat.{ℕ, _+_, _*_, _≤_, _<_}
+use Prim.Native.Nat.{ℕ, _+_, _*_, _≤_}
 use native.Mathlib.Nat.{zero-add}
 use native.Mathlib.Omega.{arith}
 use lib.ListN.{length, take, drop, length-append, take-append-drop}
@@ -11,12 +11,11 @@ use Rattle.chase.specs.Lists.{All}
 use Rattle.chase.specs.Rules.{Rule, rulesOf}
 use Rattle.chase.specs.Run.{rowsOf}
 use Rattle.chase.specs.Steps.{Step, stepNumbers}
-use Rattle.chase.specs.Judge.{Verdict, SettlesAtOnce, Settles as SettlesLater, Endless as IsEndless, Right as JudgeRight, Refuses as JudgeRefuses, short as stepsShort, wrong as lineWrong, many as shapesOver, JudgeMeets, shapeLimit}
+use Rattle.chase.specs.Judge.{SettlesAtOnce, Settles as SettlesLater, Endless as IsEndless, Right as JudgeRight, Refuses as JudgeRefuses, short as stepsShort, wrong as lineWrong, many as shapesOver, JudgeMeets, shapeLimit}
 use Rattle.chase.proofs.JudgeLaws.{verdict-settles}
 use Rattle.chase.proofs.StepLaws.{length-numbers}
-use Rattle.growth.specs.Contract.{Taken}
 use Rattle.rules.specs.Table.{goodLines, SheetHeld, rulesIn}
-use Rattle.judging.specs.Answer.{verdictOf, judgeSays, judgeRefusalNumber, judgeRefusalLine}
+use Rattle.judging.specs.Answer.{verdictOf, judgeSays}
 use Rattle.judging.specs.declared.JudgeRefusal.{JudgeRefusal}
 use Rattle.judging.specs.declared.Figures.{Figures}
 use Rattle.judging.specs.declared.JudgeAnswer.{JudgeAnswer}

@@ -11,10 +11,10 @@ use borrow.Author.Tests.{lt-ltb, le-ltb}
 use lib.Dec.{ltb}
 use lib.ListN.{length, getD, take, drop, length-append}
 use lib.Seq.{take-suc, take-length, length-take-le}
-use Rattle.chase.specs.Rules.{Rule, nth}
+use Rattle.chase.specs.Rules.{Rule}
 use Rattle.chase.specs.Steps.{Step, stepNumbers}
 use Rattle.chase.specs.Lists.{All}
-use Rattle.sentences.specs.Sentence.{bodyKind, madeKind, said, sentence, sentences, told as toldOf, textOf}
+use Rattle.sentences.specs.Sentence.{said, sentence, sentences, told as toldOf, textOf}
 use Rattle.explaining.specs.inner.Puts.{Puts}
 use Rattle.sentences.specs.inner.Naming.{Names}
 use Rattle.explaining.specs.inner.Text.{KindsAre, NamedTo, stepAt, sentenceOf, textTo}

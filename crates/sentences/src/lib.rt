@@ -1,1 +1,1 @@
-// How many values, records, and pairs of rule and carried values a sheet that settles may come to.
+// The loop of an endless sheet in sentences, how they are read back, and what explaining promises.

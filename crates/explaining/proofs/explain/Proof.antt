@@ -1,7 +1,5 @@
 -- `explain` meets its contract, by Judge's answer. Assumes nothing.
-use mathlib.Core.Path.{_≡_, refl}
-use Prim.Native.Nat.{_+_}
-use native.Mathlib.Omega.{arith}
+use mathlib.Core.Path.{refl}
 use borrow.Author.Needs.{needs}
 use denote.Ref.{now}
 use Rattle.explaining.proofs.ExplainLaws.{settled, refused, steps-few, sheet-held, steps-there, steps-named, explained-so}

@@ -1,6 +1,5 @@
 -- `text::kinds_of` meets its contract. Assumes nothing.
 use Prim.Native.Nat.{_-_}
-use native.Mathlib.Omega.{arith}
 use borrow.Author.Needs.{needs}
 use denote.Ref.{now}
 use Rattle.explaining.proofs.StartLaws.{Room, room}

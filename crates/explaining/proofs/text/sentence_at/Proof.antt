@@ -1,5 +1,5 @@
 -- `text::sentence_at` meets its contract. Assumes nothing.
-use mathlib.Core.Path.{_≡_, sym, subst₂}
+use mathlib.Core.Path.{sym, subst₂}
 use Prim.Native.Nat.{ℕ, _+_, _-_}
 use borrow.Author.Needs.{needs}
 use denote.Ref.{now}
