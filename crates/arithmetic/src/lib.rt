@@ -1,4 +1,6 @@
 // Arithmetic on counts.
+#![tactic(auto)]
+
 ghost use Rattle.std.specs.Prelude.{◌≡◌, ◌+◌, ◌*◌};
 ghost use Rattle.chase.specs.Counting.{share as share_of};
 ghost use Rattle.arithmetic.specs.Capped.{capped, polynomial as polynomial_of};

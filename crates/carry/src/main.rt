@@ -1,5 +1,7 @@
 // The carrying program: it reads a sheet from standard input, or from the file that its argument names, carries its rules out and prints C with
 // the counts of the records and the firings and R for each record; or N with the refusal's number and line. What it prints is `listing::carry_text`'s.
+#![tactic(auto)]
+
 use console::Input;
 use report::ReportAnswer;
 

@@ -1,1 +1,3 @@
 // What carrying the rules of a sheet out gives.
+#![tactic(auto)]
+

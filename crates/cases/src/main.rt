@@ -4,6 +4,8 @@
 // The input holds the cases one after the other, each as two lines of fixed length and then the sheet's text:
 //   C, how many bytes the text has, how many steps are lent, a blank, the case's name in 40 places
 //   V and the eight numbers of a verdict, or N and the two of a refusal and six blank columns; a blank column is a number that is not given
+#![tactic(auto)]
+
 mod lines;
 mod small_chase;
 mod table;

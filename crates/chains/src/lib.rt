@@ -1,4 +1,6 @@
 // What is looked up by a hash: chains of places, a chain for each bucket, and the multiplier by which numbers fall into buckets. It is drawn from the sheet's own rows: for a fixed one there are tables whose records all fall into one bucket.
+#![tactic(auto)]
+
 mod wide;
 
 ghost use Rattle.std.specs.Prelude.{◌<◌};

@@ -72,6 +72,7 @@ equal_rules_count_as_two rules rows n k c d e w s =
     there : (i : ℕ) → In i (n ∷ k ∷ []) → In i s.list
     there i (inl p) = rw p (s.complete n w)
     there i (inr (inl p)) = rw p (s.complete k (equal_rules_fire_alike rules rows n k e w))
+    there i (inr (inr none)) = elim none [ ]
 
 -- P(1)→P(2) twice, row 5.
 abbrev pub twins : List Line

@@ -1,4 +1,6 @@
 // Columns: the nine bytes that hold a number.
+#![tactic(auto)]
+
 ghost use Rattle.std.specs.Prelude.{◌≡◌, ◌+◌, ◌≤◌, length, take, drop};
 ghost use Rattle.columns.specs.Column.{place_byte, column as columnOf, wide_column, column_for, column_put, in_form, number_in, number_says};
 

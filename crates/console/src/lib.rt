@@ -2,6 +2,8 @@
 // The front of a text or of lines is what a program has filled of the room it made.
 //
 // An argument that is not known, or an input that cannot be read to its end, gives a message on standard error and no text.
+#![tactic(auto)]
+
 ghost use Rattle.std.specs.Prelude.{◌≡◌, true, ◌*◌, ◌≤◌, length, take};
 ghost use Rattle.console.specs.Input.{InBuffer};
 ghost use Rattle.console.specs.Inner.Reads.{Fits};

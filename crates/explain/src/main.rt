@@ -1,5 +1,7 @@
 // The explaining program: it reads a sheet from standard input, or from the file that its argument names, and prints a sentence for each step of an endless
 // sheet's trail and loop; or N with the refusal's number and line. What it prints is `explanation::explain_text`'s.
+#![tactic(auto)]
+
 use console::Input;
 use report::ReportAnswer;
 

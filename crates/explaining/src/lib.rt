@@ -1,4 +1,6 @@
 // The loop in sentences: one sentence for each step of what Judge answers of an endless sheet.
+#![tactic(auto)]
+
 mod number;
 mod sentence;
 mod text;

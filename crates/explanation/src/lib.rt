@@ -1,4 +1,6 @@
 // What the explaining program prints: the sentences, or a refusal.
+#![tactic(auto)]
+
 ghost use Rattle.std.specs.Prelude.{◌≤◌, length};
 ghost use Rattle.report.specs.Report.{report_says};
 ghost use Rattle.report.specs.Inner.Promises.{SheetLent, Filled};

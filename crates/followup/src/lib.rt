@@ -1,4 +1,6 @@
 // Entry points for a host in C: text, lent lines and lent steps as bytes, a u32 or u16 as its bytes, lowest first.
+#![tactic(auto)]
+
 mod bytes;
 mod records;
 

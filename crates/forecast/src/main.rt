@@ -1,5 +1,7 @@
 // The forecasting program: it reads a sheet from standard input, or from the file that its argument names, and prints F with how many values, records, and
 // pairs of rule and carried values its run may come to; or N with the refusal's number and line. What it prints is `outlook::forecast_text`'s.
+#![tactic(auto)]
+
 use console::Input;
 use report::ReportAnswer;
 

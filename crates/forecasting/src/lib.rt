@@ -1,4 +1,6 @@
 // The forecast of a sheet that settles: how many values, records, and pairs of rule and carried values it may come to.
+#![tactic(auto)]
+
 mod marks;
 mod terms;
 mod values;

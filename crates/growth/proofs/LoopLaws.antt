@@ -156,7 +156,7 @@ seen_rows {vs} {ns} {z} (l ∷ ls) once new s =
     let row : Seen (add_all Value-discrete (row_record l).fields vs) (add_all ℕ_discrete here ns) (z + zeros here) =
     subst (λ (ms : List ℕ). Seen (add_all Value-discrete (row_record l).fields vs) (add_all ℕ_discrete ms ns) (z + zeros ms)) (numbered_items here)
     (seen_fields k (numbered here) (numbers_no_two here) (λ p i. new l p.number (inl refl)) s) in
-    let all = seen_rows ls once.1 (λ m f i j. later m f i (in_add_all Value-discrete (missing m.number f) (row_record l).fields vs j)) row in
+    let all = seen_rows {vs = add_all Value-discrete (row_record l).fields vs} ls once.1 (λ m f i j. later m f i (in_add_all Value-discrete (missing m.number f) (row_record l).fields vs j)) row in
     let count : z + zeros here + zeros rest ≡ z + zeros (here ++ rest) = omega (arith, zeros-append here rest) in
     rw (add_all-append Value-discrete (row_record l).fields (fields_of (map row_record ls)) vs, add_all-append ℕ_discrete here rest ns, ← count) all
   where

@@ -1,5 +1,7 @@
 // The judging program: it reads a sheet from standard input, or from the file that its argument names, and prints V with the verdict and its
 // figures and S for each step of the trail and the loop; or N with the refusal's number and line. What it prints is `report::judge_text`'s.
+#![tactic(auto)]
+
 use console::Input;
 use report::ReportAnswer;
 

@@ -1,4 +1,6 @@
 // Judging a sheet: whether its follow-ups come to rest.
+#![tactic(auto)]
+
 mod answer;
 mod fresh;
 mod grid;

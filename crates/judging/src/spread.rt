@@ -21,7 +21,7 @@ use crate::wide;
 
 // What following links raised last: nothing, a node, or a node that was raised above the number of nodes; then nothing more is followed.
 // (A node is a u16 here: beside a usize the case would stand in eight bytes, seven of them copied for nothing.)
-#[derive(Drop)]
+#[derive(Clone, Copy)]
 enum Raised {
     Nothing,
     Node(u16),
@@ -36,7 +36,7 @@ enum Source {
 }
 
 // What the generations come to: they rest, or they rise for ever in a loop through a node.
-#[derive(Drop)]
+#[derive(Clone, Copy)]
 pub(crate) enum Turning {
     Nowhere,
     At(usize),

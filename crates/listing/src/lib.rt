@@ -1,4 +1,6 @@
 // What the carrying program prints: how many records there are and how many firings made them, then every record; or a refusal.
+#![tactic(auto)]
+
 ghost use Rattle.std.specs.Prelude.{◌≡◌, [], ◌∷◌, ◌++◌, ◌+◌, ◌*◌, ◌≤◌, ◌<◌, length, take, drop};
 ghost use Rattle.columns.specs.Column.{put};
 ghost use Rattle.sheet.specs.Line.{render, text_of};

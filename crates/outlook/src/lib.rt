@@ -1,4 +1,6 @@
 // What the forecasting program prints: the three figures, or a refusal.
+#![tactic(auto)]
+
 ghost use Rattle.std.specs.Prelude.{◌≡◌, ◌+◌, ◌≤◌, length};
 ghost use Rattle.columns.specs.Column.{put};
 ghost use Rattle.forecasting.specs.Answer.{figure_of, figures_of};

@@ -1,4 +1,6 @@
 // Patterns: the fields of a record numbered by first appearance.
+#![tactic(auto)]
+
 ghost use Rattle.std.specs.Prelude.{◌≡◌, ◌+◌, ◌<◌, ◌≤◌, T, length, get_or, take, drop};
 ghost use Rattle.patterns.specs.Pattern.{index, none_at, Label-discrete, labels, pattern_of, pattern_says, digits_of, pattern_table, digits_in};
 ghost use Rattle.patterns.specs.PatternTable.{table_test};

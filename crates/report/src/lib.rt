@@ -1,4 +1,6 @@
 // What the programs print: lines in the sheet's column form, and the whole output of the judging program.
+#![tactic(auto)]
+
 ghost use Rattle.std.specs.Prelude.{◌≡◌, true, [], ◌∷◌, ◌+◌, ◌-◌, ◌*◌, ◌≤◌, ltb, length, take, drop};
 ghost use Rattle.columns.specs.Column.{put};
 ghost use Rattle.sheet.specs.Line.{in_range};

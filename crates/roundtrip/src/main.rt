@@ -1,6 +1,8 @@
 // Reads standard input, or the file that its argument names, as a sheet, writes it back and prints the text; or N with the refusal's number and line.
 //
 // It lends 1,540 lines, fewer than the longest text can have, so that refusal 7 can be seen.
+#![tactic(auto)]
+
 use console::Input;
 use sheet::{ReadAnswer, Refusal, WriteAnswer};
 

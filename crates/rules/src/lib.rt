@@ -1,4 +1,6 @@
 // The rules of lent lines as a table of bytes.
+#![tactic(auto)]
+
 mod table;
 mod wide;
 

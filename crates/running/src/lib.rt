@@ -1,4 +1,6 @@
 // Carrying the rules out: the records that the rules make of the table's rows.
+#![tactic(auto)]
+
 mod copying;
 mod firing;
 mod firings;

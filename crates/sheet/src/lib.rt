@@ -1,4 +1,6 @@
 // Sheets of follow-up rules: text to lines and lines to text. Passes on the column of a number and the pattern of a record.
+#![tactic(auto)]
+
 mod lent;
 mod line;
 mod order;
@@ -70,7 +72,7 @@ pub enum WriteAnswer {
 }
 
 // How a line is taken apart, with the number of its fields.
-#[derive(Drop)]
+#[derive(Clone, Copy)]
 pub enum Form {
     Kind,
     Body(usize),

@@ -7,7 +7,7 @@ use crate::line::wide;
 use crate::{Form, LETTER_B, LETTER_H, LETTER_K, LETTER_R};
 
 // What is kept of the lines before. `mark` is the largest of the open rule's marks, `heads` the number of its H lines.
-#[derive(Drop)]
+#[derive(Clone, Copy)]
 pub(crate) struct Seen {
     pub letter: u32,
     pub kind: u32,

@@ -1,9 +1,11 @@
 // The steps of a judged sheet as records: each is filled from the five numbers of a step.
+#![tactic(auto)]
+
 ghost use Rattle.std.specs.Prelude.{◌≡◌, ℕ, ◌+◌, ◌*◌, ◌≤◌, length};
 ghost use Rattle.steps.specs.Showing.{record_at, shown_at, count_of, showing};
 
 // A step: rule, H line within it (1 to 4), from field, to field, fresh (1) or carried (0).
-#[derive(Drop)]
+#[derive(Clone, Copy)]
 pub struct StepRecord {
     pub rule: u16,
     pub head: u16,

@@ -1,5 +1,7 @@
 // A line walker: it keeps the lent text and the offset of the next line.
 // `line_end` and `line_at` are its core, over the text and a number; the others are thin over the struct.
+#![tactic(auto)]
+
 ghost use Rattle.std.specs.Prelude.{◌≡◌, true, ◌+◌, ◌≤◌, length};
 ghost use Rattle.walker.specs.Walk.{line_end, HandsOut};
 ghost use Rattle.walker.specs.Inner.Clear.{Clear};

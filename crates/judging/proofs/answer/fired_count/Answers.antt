@@ -1,0 +1,26 @@
+-- `answer::fired_count` meets its contract: the count is that of the marks passed. Assumes nothing.
+use mathlib.Core.Path.{◌≡◌}
+use mathlib.Core.Logic.{⊎_elim}
+use Prim.Native.Nat.{◌<◌}
+use native.Mathlib.Omega.{arith}
+use borrow.Author.Rules.{rules}
+use lib.ListN.{length}
+use Rattle.judging.proofs.TrailLaws.{ones_more, ones_same}
+use Rattle.judging.proofs.answer.fired_count.Goals as goal
+
+pub loop-r-preserved : goal.loop-r-preserved
+loop-r-preserved c =
+    let r = c.loop-r.r in
+    let fired = c.args.fired.now in
+    let size = c.requires.0 in
+    let within : r < length fired = omega arith in
+    ⊎_elim
+    (λ w. (omega arith, omega arith, omega (arith, ones_more r fired within w.0.taken)))
+    (λ w. (omega arith, omega arith, omega (arith, ones_same r fired within w.0.left)))
+    c.if-fired-r-eq1.branch
+
+pub returns : goal.returns
+returns c =
+    let r = c.loop-r.r in
+    let e : r ≡ c.args.rules = omega arith in
+    rw (← e) c.loop-r.invariant.2

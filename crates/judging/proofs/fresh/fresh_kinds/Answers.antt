@@ -1,0 +1,42 @@
+-- `fresh::fresh_kinds` meets its contract: the kinds of the rules passed have their 1. Assumes nothing.
+use mathlib.Core.Logic.{⊎_elim}
+use Prim.Native.Nat.{ℕ}
+use native.Mathlib.Omega.{arith}
+use lib.ListN.{length-replicate}
+use Rattle.judging.proofs.FreshLaws.{kinds_none, kinds_same, kinds_more, kinds_all}
+use Rattle.judging.proofs.KindLaws.{kind_low}
+use Rattle.judging.proofs.fresh.fresh_kinds.Goals as goal
+
+pub loop-r-init : goal.loop-r-init
+loop-r-init c = (omega arith, kinds_none (length-replicate {A = ℕ} 65 0))
+
+pub rule_fresh-requires : goal.rule_fresh-requires
+rule_fresh-requires c =
+    let few = c.requires.few in
+    let t = c.loop-r-test.true in
+    (c.requires.size, omega arith, c.requires.each c.loop-r.r t)
+
+pub rule_byte-kind-requires : goal.rule_byte-kind-requires
+rule_byte-kind-requires c =
+    let few = c.requires.few in
+    let t = c.loop-r-test.true in
+    (c.requires.size, omega arith, omega arith)
+
+pub bounds-kinds-kind : goal.bounds-kinds-kind
+bounds-kinds-kind c =
+    let k = kind_low c.requires c.loop-r.r c.loop-r-test.true in
+    let e = c.rule_byte-kind.ensures.0 in omega arith
+
+pub loop-r-preserved : goal.loop-r-preserved
+loop-r-preserved c =
+    let t = c.loop-r-test.true in
+    let k = kind_low c.requires c.loop-r.r t in (
+      omega arith,
+      ⊎_elim
+          (λ w. rw w.2 (kinds_more c.loop-r.invariant.1 w.1.result w.1.ensures.0 (let e = w.1.ensures.0 in omega arith)))
+          (λ w. rw w.1 (kinds_same c.loop-r.invariant.1 (rw w.0.left at c.rule_fresh.ensures)))
+          c.if-rule_fresh.branch,
+    )
+
+pub returns : goal.returns
+returns c = kinds_all c.loop-r.invariant.1 c.loop-r.invariant.0 c.loop-r-test.false

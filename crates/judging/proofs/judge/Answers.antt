@@ -1,0 +1,30 @@
+-- `judge` meets its contract: the refusals in their order, then the sheet. Assumes nothing.
+use mathlib.Core.Path.{◌≡◌}
+use Prim.Native.Nat.{ℕ}
+use lib.ListN.{length, replicate, length-replicate}
+use Rattle.rules.proofs.AnswerLaws.{not_short, lines_wrong, rules_held}
+use Rattle.judging.proofs.Judged.{steps-short, line-wrong}
+use Rattle.judging.proofs.judge.Goals as goal
+
+room : length (replicate {A = ℕ} 16384 0) ≡ 16384
+room = length-replicate {A = ℕ} 16384 0
+
+pub returns-then-steps-lt20480 : goal.returns-then-steps-lt20480
+returns-then-steps-lt20480 c = steps-short _ _ c.if-steps-lt20480.true
+
+pub judge_sheet-requires : goal.judge_sheet-requires
+judge_sheet-requires c =
+    let said = c.rules_of in
+    let held = rules_held _ _ _ room _ said.ensures _ c.in-Rules.is in
+    (held.0, c.if-steps-lt20480.false, held.1, held.2)
+
+pub returns-in-LineWrong : goal.returns-in-LineWrong
+returns-in-LineWrong c =
+    let said = c.rules_of in
+    line-wrong _ _ _ c.if-steps-lt20480.false
+    (lines_wrong _ _ _ room _ said.ensures _ c.in-LineWrong.is)
+
+pub returns-in-TableShort : goal.returns-in-TableShort
+returns-in-TableShort c =
+    let said = c.rules_of in
+    absurd (not_short _ _ _ room _ said.ensures c.in-TableShort.is)

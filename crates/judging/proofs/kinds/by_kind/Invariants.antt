@@ -1,0 +1,10 @@
+-- `judging::kinds::by_kind` puts the rules by their kinds. The invariant: those from rule `r` on are put. Assumes nothing.
+use borrow.Author.Rules.{rules}
+use Rattle.judging.proofs.KindLaws.{Linked}
+use Rattle.judging.proofs.kinds.by_kind.Given as goal
+
+abbrev pub invariant-loop-r : goal.invariant-loop-r
+invariant-loop-r l = Linked l.table l.rules l.kinds l.r
+
+abbrev pub decreases-loop-r : goal.decreases-loop-r
+decreases-loop-r l = l.r

@@ -1,0 +1,160 @@
+-- `order::walked` meets its contract. The measures are the shapes left to shelve, the roots left, and twice the shapes without a mark plus the depth. Assumes nothing.
+use mathlib.Core.Path.{◌∙◌}
+use mathlib.Core.Logic.{⊎_elim}
+use Prim.Native.Nat.{ℕ, ◌-◌, ◌<◌, ◌≤◌}
+use native.Mathlib.Omega.{arith}
+use borrow.Author.Rules.{rules}
+use lib.ListN.{get_or, length-set, length-replicate}
+use lib.Seq.{get_or-set_other}
+use Rattle.rules.proofs.PartLaws.{zero_at}
+use Rattle.judging.proofs.OrderLaws.{walk_none, depth_left, unmarked_few, more, deeper, entered, enter, shelve, leave, is_marked, pass, settle, ordered, walk_is}
+use Rattle.judging.proofs.order.walked.Goals as goal
+use Rattle.judging.proofs.order.walked.Goals.{After-row_known-1}
+
+-- The shape on top of the stack is a place.
+top : (c : After-row_known-1) → get_or c.loop-depth.stack (c.loop-depth.depth - 1) 0 < 512
+top c =
+    let w = c.loop-depth.invariant.2 in
+    let t = c.loop-depth-test.true in
+    let f = w.few in omega (arith, w.stacked (c.loop-depth.depth - 1) (omega arith))
+
+low : (c : After-row_known-1) → (c.loop-depth.depth ≤ c.loop-depth.left) × (c.loop-depth.left ≤ 512)
+low c =
+    let w = c.loop-depth.invariant.2 in
+    let f = w.few in
+    let l = w.within in (depth_left w, omega arith)
+
+pub overflow_cast-room : goal.overflow_cast-room
+overflow_cast-room c =
+    let few = c.requires.0 in omega arith
+
+pub loop-left-init : goal.loop-left-init
+loop-left-init c =
+    (c.requires.1, λ x l. zero_at 512 x, walk_none c.requires.2 (length-replicate {A = ℕ} 512 0) (length-replicate {A = ℕ} 512 0) (length-replicate {A = ℕ} 512 0) (zero_at 512) (zero_at 512))
+
+pub loop-left-preserved : goal.loop-left-preserved
+loop-left-preserved c =
+    let t = c.loop-left-test.true in
+    let w = c.loop-left.invariant.2 in
+    let l = w.within in (
+      c.loop-left.invariant.0,
+      λ x b. get_or-set_other c.loop-left.marks (c.loop-left.left - 1) x 1 0 (λ e. omega arith) ∙ c.loop-left.invariant.1 x (omega arith),
+      shelve w (c.loop-left.left - 1) (omega arith) (c.loop-left.invariant.1 (c.loop-left.left - 1) (omega arith)),
+    )
+
+pub loop-depth-init : goal.loop-depth-init
+loop-depth-init c =
+    let w = c.loop-root.invariant.2 in
+    let t = c.loop-root-test.true in (
+      t,
+      c.loop-root.invariant.1,
+      ⊎_elim
+          (λ j. walk_is j.1 j.2 j.3 (pass (enter w c.loop-root.root t j.0.taken) (entered w c.loop-root.root t j.0.taken)))
+          (λ j. walk_is j.1 j.2 j.3 (pass w (is_marked w c.loop-root.root j.0.left)))
+          c.if-marks-root-eq0.branch,
+    )
+
+pub offset_bounds-stack-depth : goal.offset_bounds-stack-depth
+offset_bounds-stack-depth c =
+    let l = low (goal.at.offset_bounds-stack-depth c).After-row_known-1 in omega arith
+
+pub bounds-stack-depth : goal.bounds-stack-depth
+bounds-stack-depth c =
+    let l = low (goal.at.bounds-stack-depth c).After-row_known-1 in let t = c.loop-depth-test.true in omega arith
+
+pub overflow_cast-s : goal.overflow_cast-s
+overflow_cast-s c =
+    let l = top (goal.at.overflow_cast-s c).After-row_known-1 in omega arith
+
+pub open_note-k-requires : goal.open_note-k-requires
+open_note-k-requires c =
+    let l = top (goal.at.open_note-k-requires c).After-row_known-1 in search rules
+
+pub overflow_cast-next : goal.overflow_cast-next
+overflow_cast-next c =
+    let few = c.requires.0 in omega (arith, c.if-k-notes.true)
+
+pub offset_bounds-next-s : goal.offset_bounds-next-s
+offset_bounds-next-s c =
+    let l = top (goal.at.offset_bounds-next-s c).After-row_known-1 in omega arith
+
+pub bounds-next-s : goal.bounds-next-s
+bounds-next-s c =
+    let l = top (goal.at.bounds-next-s c).After-row_known-1 in omega arith
+
+pub overflow_cast-marks : goal.overflow_cast-marks
+overflow_cast-marks c =
+    let w = c.loop-depth.invariant.2 in
+    let k = c.open_note-k.ensures in
+    let p = k.place c.if-k-notes.true in
+    let b = k.bare c.if-k-notes.true in
+    let f = w.few in omega arith
+
+pub bounds-marks-t : goal.bounds-marks-t
+bounds-marks-t c =
+    let w = c.loop-depth.invariant.2 in
+    let k = c.open_note-k.ensures in
+    let p = k.place c.if-k-notes.true in
+    let b = k.bare c.if-k-notes.true in
+    let f = w.few in omega arith
+
+pub offset_bounds-stack-depth-then-k-notes : goal.offset_bounds-stack-depth-then-k-notes
+offset_bounds-stack-depth-then-k-notes c =
+    let w = c.loop-depth.invariant.2 in
+    let k = c.open_note-k.ensures in
+    let p = k.place c.if-k-notes.true in
+    let b = k.bare c.if-k-notes.true in
+    let d = deeper w _ p b in omega arith
+
+pub bounds-stack-depth-then-k-notes : goal.bounds-stack-depth-then-k-notes
+bounds-stack-depth-then-k-notes c =
+    let w = c.loop-depth.invariant.2 in
+    let k = c.open_note-k.ensures in
+    let p = k.place c.if-k-notes.true in
+    let b = k.bare c.if-k-notes.true in
+    let d = deeper w _ p b in omega arith
+
+pub overflow_add-depth : goal.overflow_add-depth
+overflow_add-depth c =
+    let w = c.loop-depth.invariant.2 in
+    let k = c.open_note-k.ensures in
+    let p = k.place c.if-k-notes.true in
+    let b = k.bare c.if-k-notes.true in
+    let d = deeper w _ p b in omega arith
+
+pub loop-depth-smaller-then-k-notes : goal.loop-depth-smaller-then-k-notes
+loop-depth-smaller-then-k-notes c =
+    let w = c.loop-depth.invariant.2 in
+    let k = c.open_note-k.ensures in
+    let p = k.place c.if-k-notes.true in
+    let b = k.bare c.if-k-notes.true in
+    let m = more w _ p b in
+    let f = unmarked_few (enter w _ p b) in omega arith
+
+pub loop-depth-preserved-then-k-notes : goal.loop-depth-preserved-then-k-notes
+loop-depth-preserved-then-k-notes c =
+    let w = c.loop-depth.invariant.2 in
+    let k = c.open_note-k.ensures in
+    let p = k.place c.if-k-notes.true in
+    let b = k.bare c.if-k-notes.true in
+    (c.loop-depth.invariant.0, simp length-set c.loop-depth.invariant.1, enter w _ p b)
+
+pub overflow_sub-left-else-k-notes : goal.overflow_sub-left-else-k-notes
+overflow_sub-left-else-k-notes c =
+    let l = low (goal.at.overflow_sub-left-else-k-notes c).After-row_known-1 in let t = c.loop-depth-test.true in omega arith
+
+pub overflow_cast-order-else-k-notes : goal.overflow_cast-order-else-k-notes
+overflow_cast-order-else-k-notes c =
+    let l = top (goal.at.overflow_cast-order-else-k-notes c).After-row_known-1 in omega arith
+
+pub loop-depth-preserved : goal.loop-depth-preserved
+loop-depth-preserved c =
+    (c.loop-depth.invariant.0, c.loop-depth.invariant.1, leave c.loop-depth.invariant.2 c.loop-depth-test.true)
+
+pub loop-root-preserved : goal.loop-root-preserved
+loop-root-preserved c =
+    (let l = c.loop-depth.invariant.0 in omega arith, c.loop-depth.invariant.1, settle c.loop-depth.invariant.2 c.loop-depth-test.false)
+
+pub returns : goal.returns
+returns c =
+    ordered c.loop-root.invariant.2 c.loop-root-test.false (omega arith)

@@ -1,0 +1,39 @@
+-- `rules::table::put_rules` fills the table. The invariant: the rules of the lines passed are in it. Assumes nothing.
+use mathlib.Core.Path.{subst₂, sym}
+use mathlib.Core.Logic.{⊎_elim}
+use mathlib.Core.List.{List}
+use Prim.Native.Nat.{ℕ, ◌+◌}
+use native.Mathlib.Omega.{arith}
+use Rattle.rules.proofs.TableLaws.{Filled, filled_none, filled_inside, filled_end, filled_other, filled_room, filled_asks, filled_rule, rule-here}
+use Rattle.rules.proofs.table.put_rules.Goals as goal
+
+pub loop-n-init : goal.loop-n-init
+loop-n-init c = filled_none _ _ c.requires.1 c.requires.2
+
+pub overflow_mul-n : goal.overflow_mul-n
+overflow_mul-n c = omega (arith, filled_inside c.requires.0 c.loop-n.invariant)
+
+pub heads_at-heads-requires : goal.heads_at-heads-requires
+heads_at-heads-requires c =
+    (c.requires.0, (rule-here c.requires.0 _ c.loop-n-test.true c.if-lines-n-eq-LETTER_B.true).next)
+
+pub put_rule-requires : goal.put_rule-requires
+put_rule-requires c =
+    filled_asks c.requires.0 c.loop-n.invariant
+    c.loop-n-test.true c.if-lines-n-eq-LETTER_B.true c.heads_at-heads.ensures
+
+pub overflow_add-count : goal.overflow_add-count
+overflow_add-count c =
+    let room = filled_room c.requires.0 c.loop-n.invariant c.loop-n-test.true c.if-lines-n-eq-LETTER_B.true in
+    omega arith
+
+pub loop-n-preserved : goal.loop-n-preserved
+loop-n-preserved c =
+    let l = c.loop-n in
+    let next : List ℕ → ℕ → Type 0 = λ t k. Filled c.args.lines.now t k (l.n + 1) in
+    ⊎_elim
+    (λ w. subst₂ next (sym w.6) (sym w.7) (filled_rule c.requires.0 l.invariant c.loop-n-test.true w.0.taken w.1.ensures w.3.ensures))
+    (λ w. subst₂ next (sym w.1) (sym w.2) (filled_other c.requires.0 l.invariant c.loop-n-test.true w.0.left)) c.if-lines-n-eq-LETTER_B.branch
+
+pub returns : goal.returns
+returns c = filled_end c.requires.0 c.loop-n.invariant c.loop-n-test.false
