@@ -140,9 +140,9 @@ set_second l a b x y h = get_or-set_same (set l a x) b y 0 (omega (arith, length
 pub length_two : (l : List ℕ) (a b x y : ℕ) → length (set (set l a x) b y) ≡ length l
 length_two l a b x y = length-set (set l a x) b y ∙ length-set l a x
 
-pub line_put : {before : List ℕ} {at : ℕ} {marks after : List ℕ} {kind count : ℕ} → Part before (at + 2) 6 (mark_byte marks) after → at + 8 ≤ length before
+pub line_put : {before : List ℕ} {at : ℕ} (marks : List ℕ) {after : List ℕ} {kind count : ℕ} → Part before (at + 2) 6 (mark_byte marks) after → at + 8 ≤ length before
     → count ≡ length marks → Part before at 8 (line_byte kind marks) (set (set after at kind) (at + 1) count)
-line_put {before} {at} {marks} {after} {kind} {count} p room e =
+line_put {before} {at} marks {after} {kind} {count} p room e =
     let w = p.whole in
     record {
       whole = length_two after at (at + 1) kind count ∙ w;

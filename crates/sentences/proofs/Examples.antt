@@ -44,7 +44,7 @@ abbrev fresh : Step
 fresh = record { rule = 1; head = 1; from = 1; to = 1; fresh = 1 }
 
 abbrev text : List ℕ
-text = bytes "Rule 1, H line 1: kind 1 field 0 to kind 1 field 0, reaching, trail.\n_rule 1, H line 1: kind 1 field 1 to kind 1 field 1, fresh, loop.\n"
+text = bytes "Rule 1, H line 1: kind 1 field 0 to kind 1 field 0, reaching, trail.\nRule 1, H line 1: kind 1 field 1 to kind 1 field 1, fresh, loop.\n"
 
 -- One reaching step on the trail, and one fresh step in the loop.
 pub text_is : text_of (told rules (reaching ∷ []) (fresh ∷ [])) ≡ text
@@ -77,7 +77,7 @@ from_nothing = refl
 
 -- A text without its last byte.
 pub cut_short :
-    told_in (bytes "Rule 1, H line 1: kind 1 field 0 to kind 1 field 0, reaching, trail.\n_rule 1, H line 1: kind 1 field 1 to kind 1 field 1, fresh, loop.") ≡ none
+    told_in (bytes "Rule 1, H line 1: kind 1 field 0 to kind 1 field 0, reaching, trail.\nRule 1, H line 1: kind 1 field 1 to kind 1 field 1, fresh, loop.") ≡ none
 unfolding told_in sentence_in
 cut_short = refl
 
@@ -88,7 +88,7 @@ leading_zero = refl
 
 -- A sentence of the loop before one of the trail.
 pub loop-first :
-    told_in (bytes "Rule 1, H line 1: kind 1 field 1 to kind 1 field 1, fresh, loop.\n_rule 1, H line 1: kind 1 field 0 to kind 1 field 0, reaching, trail.\n") ≡ none
+    told_in (bytes "Rule 1, H line 1: kind 1 field 1 to kind 1 field 1, fresh, loop.\nRule 1, H line 1: kind 1 field 0 to kind 1 field 0, reaching, trail.\n") ≡ none
 unfolding told_in sentence_in text_of sentence decimal
 loop-first = refl
 

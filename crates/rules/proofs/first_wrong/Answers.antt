@@ -17,7 +17,4 @@ returns-in-LineWrong c =
 
 pub returns-in_default : goal.returns-in_default
 returns-in_default c =
-    let refusal = c.refusal-1.given in
-    refusal_right _ 1 _ c.write.ensures.says _ refusal.1
-    (λ line e. miss (0 ∷ 1 ∷ 2 ∷ 3 ∷ 4 ∷ 5 ∷ 6 ∷ 8 ∷ []) 7 tt
-    (subst (λ r. OneOf (0 ∷ 1 ∷ 2 ∷ 3 ∷ 4 ∷ 5 ∷ 6 ∷ 8 ∷ []) (tag_of the_type r)) e c.in-LineWrong.keys2))
+    refusal_right _ 1 _ c.write.ensures.says _ c.in-Refused.is c.in_default.not-LineWrong

@@ -29,4 +29,4 @@ returns c =
     let s = c.requires in
     let size = s.0 in
     let p = c.put_marks-count.ensures in
-    (p.0, line_put p.1 (omega arith) p.0)
+    (p.0, line_put _ p.1 (omega arith) p.0)

@@ -6,6 +6,7 @@ use Prim.Native.Nat.{ℕ, ◌+◌}
 use native.Mathlib.Omega.{arith}
 use Rattle.rules.proofs.TableLaws.{Filled, filled_none, filled_inside, filled_end, filled_other, filled_room, filled_asks, filled_rule, rule-here}
 use Rattle.rules.proofs.table.put_rules.Goals as goal
+use Rattle.rules.proofs.table.put_rules.Goals.{then-lines-n-eq-LETTER_B, else-lines-n-eq-LETTER_B}
 
 pub loop-n-init : goal.loop-n-init
 loop-n-init c = filled_none _ _ c.requires.1 c.requires.2
@@ -31,9 +32,13 @@ pub loop-n-preserved : goal.loop-n-preserved
 loop-n-preserved c =
     let l = c.loop-n in
     let next : List ℕ → ℕ → Type 0 = λ t k. Filled c.args.lines.now t k (l.n + 1) in
-    ⊎_elim
-    (λ w. subst₂ next (sym w.6) (sym w.7) (filled_rule c.requires.0 l.invariant c.loop-n-test.true w.0.taken w.1.ensures w.3.ensures))
-    (λ w. subst₂ next (sym w.1) (sym w.2) (filled_other c.requires.0 l.invariant c.loop-n-test.true w.0.left)) c.if-lines-n-eq-LETTER_B.branch
+    elim c.if-lines-n-eq-LETTER_B.branch [
+      then-lines-n-eq-LETTER_B w ↦
+          subst₂ next (sym w.table-is) (sym w.count-is)
+          (filled_rule c.requires.0 l.invariant c.loop-n-test.true w.if-lines-n-eq-LETTER_B.true w.heads_at-heads.ensures w.put_rule.ensures)
+      | else-lines-n-eq-LETTER_B w ↦
+          subst₂ next (sym w.table-is) (sym w.count-is) (filled_other c.requires.0 l.invariant c.loop-n-test.true w.if-lines-n-eq-LETTER_B.false)
+    ]
 
 pub returns : goal.returns
 returns c = filled_end c.requires.0 c.loop-n.invariant c.loop-n-test.false
