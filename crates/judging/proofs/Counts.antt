@@ -113,8 +113,8 @@ in_marked a (suc n) (m ∷ ms) (suc j) l e = go (eqb m 1) (in_marked (suc a) n m
 
     go : (b : Bool) → In (suc (suc a + j)) (marked (suc a) n ms)
         → In (suc (a + suc j)) (cond b (suc a ∷ marked (suc a) n ms) (marked (suc a) n ms))
-    go true ih = inr (rw same ih)
-    go false ih = rw same ih
+    go true ih = inr (subst (λ (v : ℕ). In v (marked (suc a) n ms)) (sym same) ih)
+    go false ih = subst (λ (v : ℕ). In v (marked (suc a) n ms)) (sym same) ih
 
 marked_no_two : (a n : ℕ) (ms : List ℕ) → NoTwo (marked a n ms)
 marked_no_two a zero ms = tt

@@ -63,7 +63,7 @@ numbers_nth G k n (suc p) x e =
 in_numbers_from : (G : ℕ → ℕ) (a n i : ℕ) → i < n → In (G (a + i)) (numbers_from G a n)
 in_numbers_from G a zero i l = absurd (omega arith)
 in_numbers_from G a (suc n) zero l = let z : a + 0 ≡ a = omega arith in inl (ap G z)
-in_numbers_from G a (suc n) (suc i) l = let z : a + suc i ≡ suc a + i = omega arith in inr (rw z (in_numbers_from G (suc a) n i (omega arith)))
+in_numbers_from G a (suc n) (suc i) l = let z : suc a + i ≡ a + suc i = omega arith in inr (subst (λ (v : ℕ). In (G v) (numbers_from G (suc a) n)) z (in_numbers_from G (suc a) n i (omega arith)))
 
 numbers_from_in : (G : ℕ → ℕ) (a n x : ℕ) → In x (numbers_from G a n) → (i : ℕ) × (i < n) × (x ≡ G (a + i))
 numbers_from_in G a n x i =

@@ -453,7 +453,7 @@ ruling_skip {rules} {rows} {store} {digits} {m} {shape} {kind} {s} {r} {codes} {
 ruling_skip {rules} {rows} {store} {digits} {m} {shape} {kind} {s} {r} {codes} {index} {ways} {fired} {n} (suc k) x low still =
     let e : r + 1 + k ≡ r + suc k = omega arith in
     subst (λ (v : ℕ). Ruling rules rows store digits m shape kind s v codes index ways fired n) e
-    (ruling_skip k (ruling_still x (still r (omega arith) (omega arith)) (omega arith)) (omega arith) (λ i a b. still i (omega arith) (omega arith)))
+    (ruling_skip {r = r + 1} k (ruling_still x (still r (omega arith) (omega arith)) (omega arith)) (omega arith) (λ i a b. still i (omega arith) (omega arith)))
 
 -- The next rule that fires is found.
 pub ruling_next : {rules : List Rule} {rows : List Record} {store digits : List ℕ} {m shape kind s r q : ℕ} {codes index : List ℕ} {ways : List (List ℕ)} {fired : List ℕ} {n : ℕ}
