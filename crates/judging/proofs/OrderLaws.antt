@@ -63,6 +63,10 @@ module _ {count r : ℕ} {order marks stack : List ℕ} {left depth : ℕ} (w : 
   pub depth_left : depth ≤ left
   depth_left = let a = w.room in omega (arith, marked_few count marks w.small)
 
+  -- The shape on top of the stack is a place.
+  pub top_few : 0 < depth → get_or stack (depth - 1) 0 < 512
+  top_few some = let f = w.few in omega (arith, w.stacked (depth - 1) (omega arith))
+
   pub unmarked_few : marked count marks ≤ count
   unmarked_few = marked_few count marks w.small
 

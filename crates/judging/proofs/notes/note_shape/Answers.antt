@@ -67,7 +67,7 @@ loop-h-preserved c =
 pub next_fire-r-requires-in-loop-r : goal.next_fire-r-requires-in-loop-r
 next_fire-r-requires-in-loop-r c =
     let i = c.loop-h.invariant in
-    (c.requires.0, c.requires.5, fired-place _ _ i.4.kind-is i.3 i.2, i.4.digits_fit)
+    (c.requires.0, c.requires.5, fired-place _ _ i.4.kind_is i.3 i.2, i.4.digits_fit)
 
 pub loop-r-smaller : goal.loop-r-smaller
 loop-r-smaller c =

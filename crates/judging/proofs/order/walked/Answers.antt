@@ -1,28 +1,14 @@
 -- `order::walked` meets its contract. The measures are the shapes left to shelve, the roots left, and twice the shapes without a mark plus the depth. Assumes nothing.
 use mathlib.Core.Path.{◌∙◌}
-use mathlib.Core.Logic.{⊎_elim}
 use Prim.Native.Nat.{ℕ, ◌-◌, ◌<◌, ◌≤◌}
 use native.Mathlib.Omega.{arith}
 use borrow.Author.Rules.{rules}
 use lib.ListN.{get_or, length-set, length-replicate}
 use lib.Seq.{get_or-set_other}
 use Rattle.rules.proofs.PartLaws.{zero_at}
-use Rattle.judging.proofs.OrderLaws.{walk_none, depth_left, unmarked_few, more, deeper, entered, enter, shelve, leave, is_marked, pass, settle, ordered, walk_is}
+use Rattle.judging.proofs.OrderLaws.{walk_none, depth_left, top_few, unmarked_few, more, deeper, entered, enter, shelve, leave, is_marked, pass, settle, ordered, walk_is}
 use Rattle.judging.proofs.order.walked.Goals as goal
-use Rattle.judging.proofs.order.walked.Goals.{After-row_known-1}
-
--- The shape on top of the stack is a place.
-top : (c : After-row_known-1) → get_or c.loop-depth.stack (c.loop-depth.depth - 1) 0 < 512
-top c =
-    let w = c.loop-depth.invariant.2 in
-    let t = c.loop-depth-test.true in
-    let f = w.few in omega (arith, w.stacked (c.loop-depth.depth - 1) (omega arith))
-
-low : (c : After-row_known-1) → (c.loop-depth.depth ≤ c.loop-depth.left) × (c.loop-depth.left ≤ 512)
-low c =
-    let w = c.loop-depth.invariant.2 in
-    let f = w.few in
-    let l = w.within in (depth_left w, omega arith)
+use Rattle.judging.proofs.order.walked.Goals.{then-marks-root-eq0, else-marks-root-eq0}
 
 pub overflow_cast-room : goal.overflow_cast-room
 overflow_cast-room c =
@@ -48,27 +34,29 @@ loop-depth-init c =
     let t = c.loop-root-test.true in (
       t,
       c.loop-root.invariant.1,
-      ⊎_elim
-          (λ j. walk_is j.1 j.2 j.3 (pass (enter w c.loop-root.root t j.0.taken) (entered w c.loop-root.root t j.0.taken)))
-          (λ j. walk_is j.1 j.2 j.3 (pass w (is_marked w c.loop-root.root j.0.left)))
-          c.if-marks-root-eq0.branch,
+      elim c.if-marks-root-eq0.branch [
+        then-marks-root-eq0 j ↦
+            let bare = j.if-marks-root-eq0.true in
+            walk_is j.marks-is j.stack-is j.depth-is (pass (enter w c.loop-root.root t bare) (entered w c.loop-root.root t bare))
+      | else-marks-root-eq0 j ↦ walk_is j.marks-is j.stack-is j.depth-is (pass w (is_marked w c.loop-root.root j.if-marks-root-eq0.false))
+      ],
     )
 
 pub offset_bounds-stack-depth : goal.offset_bounds-stack-depth
 offset_bounds-stack-depth c =
-    let l = low (goal.at.offset_bounds-stack-depth c).After-row_known-1 in omega arith
+    let w = c.loop-depth.invariant.2 in let l = depth_left w in let few = w.few in let in_all = w.within in omega arith
 
 pub bounds-stack-depth : goal.bounds-stack-depth
 bounds-stack-depth c =
-    let l = low (goal.at.bounds-stack-depth c).After-row_known-1 in let t = c.loop-depth-test.true in omega arith
+    let w = c.loop-depth.invariant.2 in let l = depth_left w in let few = w.few in let in_all = w.within in let t = c.loop-depth-test.true in omega arith
 
 pub overflow_cast-s : goal.overflow_cast-s
 overflow_cast-s c =
-    let l = top (goal.at.overflow_cast-s c).After-row_known-1 in omega arith
+    let l = top_few c.loop-depth.invariant.2 c.loop-depth-test.true in omega arith
 
 pub open_note-k-requires : goal.open_note-k-requires
 open_note-k-requires c =
-    let l = top (goal.at.open_note-k-requires c).After-row_known-1 in search rules
+    let l = top_few c.loop-depth.invariant.2 c.loop-depth-test.true in search rules
 
 pub overflow_cast-next : goal.overflow_cast-next
 overflow_cast-next c =
@@ -76,11 +64,11 @@ overflow_cast-next c =
 
 pub offset_bounds-next-s : goal.offset_bounds-next-s
 offset_bounds-next-s c =
-    let l = top (goal.at.offset_bounds-next-s c).After-row_known-1 in omega arith
+    let l = top_few c.loop-depth.invariant.2 c.loop-depth-test.true in omega arith
 
 pub bounds-next-s : goal.bounds-next-s
 bounds-next-s c =
-    let l = top (goal.at.bounds-next-s c).After-row_known-1 in omega arith
+    let l = top_few c.loop-depth.invariant.2 c.loop-depth-test.true in omega arith
 
 pub overflow_cast-marks : goal.overflow_cast-marks
 overflow_cast-marks c =
@@ -141,11 +129,11 @@ loop-depth-preserved-then-k-notes c =
 
 pub overflow_sub-left-else-k-notes : goal.overflow_sub-left-else-k-notes
 overflow_sub-left-else-k-notes c =
-    let l = low (goal.at.overflow_sub-left-else-k-notes c).After-row_known-1 in let t = c.loop-depth-test.true in omega arith
+    let w = c.loop-depth.invariant.2 in let l = depth_left w in let few = w.few in let in_all = w.within in let t = c.loop-depth-test.true in omega arith
 
 pub overflow_cast-order-else-k-notes : goal.overflow_cast-order-else-k-notes
 overflow_cast-order-else-k-notes c =
-    let l = top (goal.at.overflow_cast-order-else-k-notes c).After-row_known-1 in omega arith
+    let l = top_few c.loop-depth.invariant.2 c.loop-depth-test.true in omega arith
 
 pub loop-depth-preserved : goal.loop-depth-preserved
 loop-depth-preserved c =

@@ -1,9 +1,9 @@
 -- `judging::search::find_rows` meets its contract. The invariant: where the reading of the lines stands, and the shapes of the rows so far. The measure is the number of lines left. Assumes nothing.
-use mathlib.Core.Logic.{⊎_elim}
 use borrow.Author.Rules.{rules}
 use Rattle.rules.proofs.RowLaws.{reading_begun, whole_line, kind_low, read_kind, read_row, read_other, row_at, read_all}
 use Rattle.judging.proofs.RowLaws.{rows_begun, tried_all}
 use Rattle.judging.proofs.search.find_rows.Goals as goal
+use Rattle.judging.proofs.search.find_rows.Goals.{then-letter-eq-LETTER_K, else-letter-eq-LETTER_K+then-letter-eq-LETTER_R+in-Count, else-letter-eq-LETTER_K+else-letter-eq-LETTER_R}
 
 pub loop-n-init : goal.loop-n-init
 loop-n-init c = (reading_begun _, rows_begun _ _ _ _ _ c.requires.1 c.requires.2 c.requires.3)
@@ -46,16 +46,17 @@ overflow_add-row c =
 pub loop-n-preserved : goal.loop-n-preserved
 loop-n-preserved c =
     let v = c.loop-n.invariant in
-    ⊎_elim
-    (λ w. rw (w.2, w.3, w.4, w.5, w.6, w.7) (read_kind _ _ _ _ c.requires.0 c.loop-n.invariant.0 c.loop-n-test.true w.0.taken, v.1))
-    (λ u.
-    ⊎_elim
-    (λ w.
-    rw (w.9, w.10, w.11, w.12, w.13, w.14)
-    (read_row _ _ _ _ c.requires.0 c.loop-n.invariant.0 c.loop-n-test.true w.1.taken, rw w.7.given.1 at w.5.ensures))
-    (λ w. rw (w.2, w.3, w.4, w.5, w.6, w.7) (read_other _ _ _ _ c.requires.0 c.loop-n.invariant.0 c.loop-n-test.true w.0.left w.1.left, v.1))
-    u)
-    c.if-letter-eq-LETTER_K.branch
+    elim c.if-letter-eq-LETTER_K.branch [
+      then-letter-eq-LETTER_K w ↦
+          rw (w.shapes-is, w.index-is, w.ways-is, w.widths-is, w.count-is, w.row-is)
+          (read_kind _ _ _ _ c.requires.0 v.0 c.loop-n-test.true w.if-letter-eq-LETTER_K.true, v.1)
+    | else-letter-eq-LETTER_K+then-letter-eq-LETTER_R+in-Count w ↦
+          rw (w.shapes-is, w.index-is, w.ways-is, w.widths-is, w.count-is, w.row-is)
+          (read_row _ _ _ _ c.requires.0 v.0 c.loop-n-test.true w.if-letter-eq-LETTER_R.true, rw w.in-Count.is at w.find_row.ensures)
+    | else-letter-eq-LETTER_K+else-letter-eq-LETTER_R w ↦
+          rw (w.shapes-is, w.index-is, w.ways-is, w.widths-is, w.count-is, w.row-is)
+          (read_other _ _ _ _ c.requires.0 v.0 c.loop-n-test.true w.if-letter-eq-LETTER_K.false w.if-letter-eq-LETTER_R.false, v.1)
+    ]
 
 pub returns : goal.returns
 returns c =

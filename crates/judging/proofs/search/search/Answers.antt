@@ -1,7 +1,6 @@
 -- `judging::search::search` meets its contract. Each loop keeps where the search stands; each branch is an event of it. The measures are what is left of the H lines, the rules and the 512 places. Assumes nothing.
 use mathlib.Core.Path.{◌≡◌, refl, sym, ◌∙◌, ap}
 use mathlib.Core.List.{List}
-use mathlib.Core.Logic.{⊎_elim}
 use Prim.Native.Nat.{ℕ, ◌+◌}
 use native.Mathlib.Omega.{arith}
 use borrow.Author.Rules.{rules}
@@ -13,6 +12,7 @@ use Rattle.judging.proofs.KindLaws.{first-place, fired-place, fire_from}
 use Rattle.judging.proofs.SearchLaws.{doing_begun, ruling_first, ruling_fires, ruling_next, ruling_last, heading_last, heading_same, heading_below, heading_four, heading_seen, heading_push, heading_more, try_all}
 use Rattle.judging.proofs.NoteLaws.{noting_begun, noting_seen, noting_new, noting_rule, noting-next, noting-shape, noting-all, noting-room, new_there, seen_there}
 use Rattle.judging.proofs.search.search.Goals as goal
+use Rattle.judging.proofs.search.search.Goals.{then-index-code-eq0+else-count-eq512, else-index-code-eq0}
 
 -- A row of the table of patterns.
 looked_up : (t : List ℕ) (n : ℕ) {d : List ℕ} → d ≡ digits_in t n → t ≡ pattern_table → d ≡ digits_of n
@@ -80,7 +80,10 @@ note-requires c =
     let four = heading_four x in
     let up = x.h_low in (
       omega arith,
-      ⊎_elim (λ w. new_there x _ is (w.7 ∙ w.5.ensures.1)) (λ w. seen_there x _ is w.0.left w.2) c.if-index-code-eq0.branch,
+      elim c.if-index-code-eq0.branch [
+        then-index-code-eq0+else-count-eq512 w ↦ new_there x _ is (w.index-is ∙ w.push.ensures.1)
+      | else-index-code-eq0 w ↦ seen_there x _ is w.if-index-code-eq0.false w.index-is
+      ],
     )
 
 pub loop-h-preserved : goal.loop-h-preserved
@@ -90,22 +93,26 @@ loop-h-preserved c =
     let t = c.loop-h-test.true in
     let note = c.note.ensures in (
       i.0,
-      ⊎_elim
-          (λ w.
-          let p = w.5.ensures in
-          heading_same (heading_push i.1 _ m.ensures t w.1.left w.0.taken) _ _ _ _ (w.6 ∙ p.0) (w.7 ∙ p.1) (w.8 ∙ p.2) w.9)
-          (λ w. heading_same (heading_seen i.1 _ m.ensures t w.0.left) _ _ _ _ w.1 w.2 w.3 w.4)
-          c.if-index-code-eq0.branch,
-      ⊎_elim
-          (λ w. noting_new i.1 i.2 _ m.ensures t note w.1.left w.0.taken (w.6 ∙ w.5.ensures.0) (w.7 ∙ w.5.ensures.1))
-          (λ w. noting_seen i.1 i.2 _ m.ensures t note w.0.left w.1 w.2)
-          c.if-index-code-eq0.branch,
+      elim c.if-index-code-eq0.branch [
+        then-index-code-eq0+else-count-eq512 w ↦
+            let p = w.push.ensures in
+            heading_same (heading_push i.1 _ m.ensures t w.if-count-eq512.false w.if-index-code-eq0.true) _ _ _ _
+            (w.shapes-is ∙ p.0) (w.index-is ∙ p.1) (w.ways-is ∙ p.2) w.count-is
+      | else-index-code-eq0 w ↦
+            heading_same (heading_seen i.1 _ m.ensures t w.if-index-code-eq0.false) _ _ _ _ w.shapes-is w.index-is w.ways-is w.count-is
+      ],
+      elim c.if-index-code-eq0.branch [
+        then-index-code-eq0+else-count-eq512 w ↦
+            let p = w.push.ensures in
+            noting_new i.1 i.2 _ m.ensures t note w.if-count-eq512.false w.if-index-code-eq0.true (w.shapes-is ∙ p.0) (w.index-is ∙ p.1)
+      | else-index-code-eq0 w ↦ noting_seen i.1 i.2 _ m.ensures t note w.if-index-code-eq0.false w.shapes-is w.index-is
+      ],
     )
 
 pub next_fire-r-requires-in-loop-r : goal.next_fire-r-requires-in-loop-r
 next_fire-r-requires-in-loop-r c =
     let x = c.loop-h.invariant.1 in
-    (x.ruled.fits, c.requires.6, fired-place _ _ x.on.kind-is x.applies x.r_low, x.on.digits_fit)
+    (x.ruled.fits, c.requires.6, fired-place _ _ x.on.kind_is x.applies x.r_low, x.on.digits_fit)
 
 pub loop-r-smaller : goal.loop-r-smaller
 loop-r-smaller c =
