@@ -25,7 +25,6 @@ use Rattle.rules.specs.Inner.Bytes.{Clear}
 use Rattle.rules.specs.Inner.Rows.{row_numbers, RowAt}
 use Rattle.judging.specs.Inner.Rows.{RowsFound}
 use Rattle.judging.proofs.CodeLaws.{pattern-fits}
-use Rattle.rules.proofs.PartLaws.{zeros}
 use Rattle.judging.proofs.FoundLaws.{new_shape, has_more, has_last, room_of, marked_has, kept_push, more_than, derived_row}
 
 -- The rows' shapes.

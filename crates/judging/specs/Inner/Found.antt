@@ -1,5 +1,5 @@
 -- What the search for shapes leaves. Assumes nothing.
-use Rattle.std.specs.Prelude.{◌≡◌, Bool, true, false, cond, List, [], ◌∷◌, ◌⊎◌, ℕ, zero, suc, ◌+◌, ◌≤◌, ◌<◌, eqb, length, get_or}
+use Rattle.std.specs.Prelude.{◌≡◌, Bool, true, false, cond, List, [], ◌∷◌, ℕ, zero, suc, ◌≤◌, ◌<◌, eqb, length, get_or}
 use Rattle.std.proofs.Math.Option.{some}
 use Rattle.chase.specs.Lists.{In}
 use Rattle.chase.specs.Rules.{Head, Rule, nth}
@@ -7,7 +7,7 @@ use Rattle.chase.specs.Making.{Record}
 use Rattle.chase.specs.Shape.{Shape, shape_of}
 use Rattle.chase.specs.Counting.{MoreThan}
 use Rattle.chase.specs.Simplification.{Applies, Derived}
-use Rattle.judging.specs.Inner.Codes.{shape_at, code_of, ShapeFits, shape_from}
+use Rattle.judging.specs.Inner.Codes.{shape_at, ShapeFits, shape_from}
 
 -- The shape at place k.
 abbrev pub shape_no : List ℕ → ℕ → Shape

@@ -1,5 +1,5 @@
 -- Numbers for the fields of 512 shapes, seven for each, and walks back from node to node. Assumes nothing.
-use Rattle.std.specs.Prelude.{◌≡◌, List, [], ◌∷◌, ℕ, zero, suc, ◌+◌, ◌*◌, ◌/◌, ◌%◌, ◌≤◌, ◌<◌, length, get_or, set}
+use Rattle.std.specs.Prelude.{◌≡◌, List, [], ◌∷◌, ℕ, zero, suc, ◌+◌, ◌/◌, ◌%◌, ◌≤◌, ◌<◌, length, get_or, set}
 
 -- The number at a node: field v % 7 of shape v / 7.
 unfoldable pub at : List (List ℕ) → ℕ → ℕ

@@ -1,6 +1,5 @@
 -- `notes::note_shape` meets its contract. Each loop keeps that the firings of the rules, or H lines, so far were noted; a rule that is come to fires. Assumes nothing.
 use mathlib.Core.Path.{refl}
-use mathlib.Core.Bool.{true}
 use Prim.Native.Nat.{◌+◌}
 use native.Mathlib.Omega.{arith}
 use Rattle.judging.proofs.KindLaws.{first-place, fired-place, fire_from}

@@ -2,7 +2,6 @@
 use mathlib.Core.Path.{◌≡◌}
 use mathlib.Core.Bool.{true}
 use Prim.Native.Nat.{◌-◌, ◌<◌, ◌≤◌}
-use borrow.Author.Rules.{rules}
 use lib.ListN.{get_or}
 use Rattle.chase.specs.Simplification.{Applies}
 use Rattle.rules.specs.Table.{row_bytes, rule_in}

@@ -1,9 +1,9 @@
 -- `order::walked` meets its contract. The measures are the shapes left to shelve, the roots left, and twice the shapes without a mark plus the depth. Assumes nothing.
 use mathlib.Core.Path.{◌∙◌}
-use Prim.Native.Nat.{ℕ, ◌-◌, ◌<◌, ◌≤◌}
+use Prim.Native.Nat.{ℕ, ◌-◌}
 use native.Mathlib.Omega.{arith}
 use borrow.Author.Rules.{rules}
-use lib.ListN.{get_or, length-set, length-replicate}
+use lib.ListN.{length-set, length-replicate}
 use lib.Seq.{get_or-set_other}
 use Rattle.rules.proofs.PartLaws.{zero_at}
 use Rattle.judging.proofs.OrderLaws.{walk_none, depth_left, top_few, unmarked_few, more, deeper, entered, enter, shelve, leave, is_marked, pass, settle, ordered, walk_is}

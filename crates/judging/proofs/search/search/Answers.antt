@@ -4,7 +4,6 @@ use mathlib.Core.List.{List}
 use Prim.Native.Nat.{ℕ, ◌+◌}
 use native.Mathlib.Omega.{arith}
 use borrow.Author.Rules.{rules}
-use mathlib.Core.Bool.{true, false}
 use Rattle.patterns.specs.Pattern.{digits_of, pattern_table, digits_in}
 use Rattle.patterns.proofs.PatternRows.{table-rows}
 use Rattle.rules.proofs.PartLaws.{zeros, zero_at}

@@ -1,7 +1,6 @@
 -- `judging::shape::made_number` meets its contract: the first place of the mark tells a fresh number from a carried one. Assumes nothing.
 use mathlib.Core.Path.{◌∙◌}
 use native.Mathlib.Omega.{arith}
-use borrow.Author.Rules.{rules}
 use Rattle.rules.specs.Table.{row_bytes}
 use Rattle.rules.proofs.RuleLaws.{RowFits, row_fits, place_few}
 use Rattle.judging.proofs.RuleLaws.{fresh_number, carried_number}

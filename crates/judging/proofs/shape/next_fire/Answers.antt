@@ -2,7 +2,6 @@
 use mathlib.Core.Path.{sym, subst}
 use Prim.Native.Nat.{◌+◌, ◌-◌}
 use native.Mathlib.Omega.{arith}
-use borrow.Author.Rules.{rules}
 use Rattle.judging.specs.Inner.Firing.{kind_byte, NextOf}
 use Rattle.judging.proofs.KindLaws.{place_low, place_next, passed_first, passed_next}
 use Rattle.judging.proofs.shape.next_fire.Goals as goal

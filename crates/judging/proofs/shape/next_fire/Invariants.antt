@@ -1,6 +1,5 @@
 -- `judging::shape::next_fire` meets its contract. The loop's invariant: none of the rules after place `p` up to `q` fires. Assumes nothing.
 use Prim.Native.Nat.{◌-◌}
-use borrow.Author.Rules.{rules}
 use Rattle.judging.proofs.KindLaws.{Passed}
 use Rattle.judging.proofs.shape.next_fire.Given as goal
 
