@@ -20,8 +20,8 @@ looked_up t n e p = e ∙ ap (λ u. digits_in u n) p ∙ table-rows n
 pub returns-in_default : goal.returns-in_default
 returns-in_default c =
     (
-  record { all = λ e. let z : ◌≡◌ {A = ℕ} 0 1 = cc e in let y : ⊥ = omega arith in absurd y; more = λ _. rw c.in_default.is at c.find_rows.ensures },
-  λ e. let z : ◌≡◌ {A = ℕ} 0 1 = cc e in let y : ⊥ = omega arith in absurd y,
+  record { all = λ e. search rules; more = λ _. rw c.in_default.is at c.find_rows.ensures },
+  λ e. search rules,
 )
 
 pub search-init : goal.search-init
@@ -156,8 +156,8 @@ pub returns-then-count-eq512 : goal.returns-then-count-eq512
 returns-then-count-eq512 c =
     let i = c.loop-h.invariant in (
       record {
-        all = λ e. let z : ◌≡◌ {A = ℕ} 0 1 = cc e in let y : ⊥ = omega arith in absurd y;
+        all = λ e. search rules;
         more = λ _. heading_more i.1 _ c.made-code.ensures c.loop-h-test.true c.if-count-eq512.true c.if-index-code-eq0.true;
       },
-      λ e. let z : ◌≡◌ {A = ℕ} 0 1 = cc e in let y : ⊥ = omega arith in absurd y,
+      λ e. search rules,
     )
