@@ -46,11 +46,11 @@ returns-in-Nowhere c =
     let found = c.search-found.ensures in
     let counted = c.counts-counts.ensures in
     let known = subst (Known _ _ _ _ _ _ _) (sym counted.1.shapes_are) (all_known c.requires.0 found.0 c.requires.2 c.requires.3 c.if-found.false) in
-    settled_right known _ c.spread-turning.ensures refl counted.1.fired-is counted.1.share-is _ _ c.requires.1 _ (ap turning_number c.in-Nowhere.is) c.settled_answer.ensures
+    settled_right known _ c.spread-turning.ensures refl counted.1.fired_is counted.1.share_is _ _ c.requires.1 _ (ap turning_number c.in-Nowhere.is) c.settled_answer.ensures
 
 pub returns-in-At : goal.returns-in-At
 returns-in-At c =
     let found = c.search-found.ensures in
     let counted = c.counts-counts.ensures in
     let known = subst (Known _ _ _ _ _ _ _) (sym counted.1.shapes_are) (all_known c.requires.0 found.0 c.requires.2 c.requires.3 c.if-found.false) in
-    endless_right known _ c.spread-turning.ensures refl counted.1.fired-is counted.1.share-is _ _ c.requires.1 _ _ (ap turning_number c.in-At.is) c.endless_answer.ensures
+    endless_right known _ c.spread-turning.ensures refl counted.1.fired_is counted.1.share_is _ _ c.requires.1 _ _ (ap turning_number c.in-At.is) c.endless_answer.ensures

@@ -1,12 +1,12 @@
 -- `answer::fired_count` meets its contract: the count is that of the marks passed. Assumes nothing.
 use mathlib.Core.Path.{◌≡◌}
-use mathlib.Core.Logic.{⊎_elim}
 use Prim.Native.Nat.{◌<◌}
 use native.Mathlib.Omega.{arith}
 use borrow.Author.Rules.{rules}
 use lib.ListN.{length}
 use Rattle.judging.proofs.TrailLaws.{ones_more, ones_same}
 use Rattle.judging.proofs.answer.fired_count.Goals as goal
+use Rattle.judging.proofs.answer.fired_count.Goals.{then-fired-r-eq1, else-fired-r-eq1}
 
 pub loop-r-preserved : goal.loop-r-preserved
 loop-r-preserved c =
@@ -14,10 +14,10 @@ loop-r-preserved c =
     let fired = c.args.fired.now in
     let size = c.requires.0 in
     let within : r < length fired = omega arith in
-    ⊎_elim
-    (λ w. (omega arith, omega arith, omega (arith, ones_more r fired within w.0.taken)))
-    (λ w. (omega arith, omega arith, omega (arith, ones_same r fired within w.0.left)))
-    c.if-fired-r-eq1.branch
+    elim c.if-fired-r-eq1.branch [
+      then-fired-r-eq1 w ↦ (omega arith, omega arith, omega (arith, ones_more r fired within w.if-fired-r-eq1.true))
+      | else-fired-r-eq1 w ↦ (omega arith, omega arith, omega (arith, ones_same r fired within w.if-fired-r-eq1.false))
+    ]
 
 pub returns : goal.returns
 returns c =

@@ -12,7 +12,7 @@ put_links-requires c =
     let room = lent.room in
     let short = c.way_length-way.ensures.short in
     let turns = c.turn_length-turns.ensures.few in
-    let kept = c.put_way-row.auto.0 in
+    let kept = c.put_way-row.auto.steps in
     (turn_stays c.requires.2 (omega arith) _, omega arith)
 
 pub returns : goal.returns

@@ -37,7 +37,7 @@ put_links-requires c =
     let below = line_nodes c.requires.3 line.ensures line.result (omega arith) in
     let from = c.line_start-start.ensures in
     let short = c.way_length-way.ensures.short in
-    let kept = c.put_way-row.auto.0 in
+    let kept = c.put_way-row.auto.steps in
     (λ j l. line_stays c.requires.3 line.ensures (omega arith) j (omega arith), omega arith)
 
 pub returns : goal.returns

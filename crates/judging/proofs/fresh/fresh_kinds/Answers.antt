@@ -1,11 +1,11 @@
 -- `fresh::fresh_kinds` meets its contract: the kinds of the rules passed have their 1. Assumes nothing.
-use mathlib.Core.Logic.{⊎_elim}
 use Prim.Native.Nat.{ℕ}
 use native.Mathlib.Omega.{arith}
 use lib.ListN.{length-replicate}
 use Rattle.judging.proofs.FreshLaws.{kinds_none, kinds_same, kinds_more, kinds_all}
 use Rattle.judging.proofs.KindLaws.{kind_low}
 use Rattle.judging.proofs.fresh.fresh_kinds.Goals as goal
+use Rattle.judging.proofs.fresh.fresh_kinds.Goals.{then-rule_fresh, else-rule_fresh}
 
 pub loop-r-init : goal.loop-r-init
 loop-r-init c = (omega arith, kinds_none (length-replicate {A = ℕ} 65 0))
@@ -32,10 +32,12 @@ loop-r-preserved c =
     let t = c.loop-r-test.true in
     let k = kind_low c.requires c.loop-r.r t in (
       omega arith,
-      ⊎_elim
-          (λ w. rw w.2 (kinds_more c.loop-r.invariant.1 w.1.result w.1.ensures.0 (let e = w.1.ensures.0 in omega arith)))
-          (λ w. rw w.1 (kinds_same c.loop-r.invariant.1 (rw w.0.left at c.rule_fresh.ensures)))
-          c.if-rule_fresh.branch,
+      elim c.if-rule_fresh.branch [
+        then-rule_fresh w ↦
+          let e = w.rule_byte-kind.ensures.0 in
+          rw w.kinds-is (kinds_more c.loop-r.invariant.1 w.rule_byte-kind.result e (omega arith))
+        | else-rule_fresh w ↦ rw w.kinds-is (kinds_same c.loop-r.invariant.1 (rw w.if-rule_fresh.false at c.rule_fresh.ensures))
+      ],
     )
 
 pub returns : goal.returns

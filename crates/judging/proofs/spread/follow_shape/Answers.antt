@@ -10,6 +10,7 @@ use Rattle.judging.specs.Inner.Noted.{ShapeNotes}
 use Rattle.judging.proofs.NoteLaws.{notes_fit, notes-done, onward_all}
 use Rattle.judging.proofs.GraphLaws.{onward}
 use Rattle.judging.proofs.spread.follow_shape.Goals as goal
+use Rattle.judging.proofs.spread.follow_shape.Goals.{Then-end-notes}
 
 -- A part by its two ends.
 part_is : (notes : List (List ℕ)) {first end first' end' : ℕ} → first ≡ first' → end ≡ end' → take (end - first) (drop first notes) ≡ take (end' - first') (drop first' notes)
@@ -20,7 +21,7 @@ first_is : (notes : List (List ℕ)) (n : ℕ) → take n notes ≡ take (n - 0)
 first_is notes n = let z : n ≡ n - 0 = omega arith in ap (λ (k : ℕ). take k notes) z
 
 -- The notes of the search on the shape, where they are there.
-noted : (c : tie.Then1)
+noted : (c : Then-end-notes)
     → ShapeNotes c.args.table.now c.args.rules c.args.index.now
     c.args.notes.now (get_or c.args.shapes.now c.args.s 0)
     (get_or c.args.starts.now c.args.s 0)
@@ -48,29 +49,29 @@ bounds-starts-s-2 c = let few = c.requires.0.closed.few in let size = c.requires
 
 pub offset_bounds-notes-first : goal.offset_bounds-notes-first
 offset_bounds-notes-first c =
-    let b = (noted c).begun in
+    let b = (noted (goal.at.offset_bounds-notes-first c).Then-end-notes).begun in
     let few = c.requires.0.noted.few in
     omega (arith, c.of_u32-end.ensures, c.of_u32-first.ensures, c.if-end-notes.true)
 
 pub slice_bounds-follow_noted-count : goal.slice_bounds-follow_noted-count
-slice_bounds-follow_noted-count c = let b = (noted c).begun in omega (arith, c.of_u32-end.ensures, c.of_u32-first.ensures)
+slice_bounds-follow_noted-count c = let b = (noted (goal.at.slice_bounds-follow_noted-count c).Then-end-notes).begun in omega (arith, c.of_u32-end.ensures, c.of_u32-first.ensures)
 
 pub slice_bounds-follow_noted-start : goal.slice_bounds-follow_noted-start
-slice_bounds-follow_noted-start c = let b = (noted c).begun in omega (arith, c.of_u32-end.ensures, c.of_u32-first.ensures)
+slice_bounds-follow_noted-start c = let b = (noted (goal.at.slice_bounds-follow_noted-start c).Then-end-notes).begun in omega (arith, c.of_u32-end.ensures, c.of_u32-first.ensures)
 
 pub follow_noted-requires : goal.follow_noted-requires
 follow_noted-requires c =
     let ground = c.requires.0 in
     let is = part_is c.args.notes.now c.of_u32-first.ensures c.of_u32-end.ensures in
     let within = subst (λ (e : ℕ). e ≤ length c.args.notes.now) c.of_u32-end.ensures c.if-end-notes.true in
-    (ground.table_fits.size, notes_fit ground.table_fits (noted c) is within (onward ground.table_fits ground.closed c.args.s c.requires.1), c.requires.2, omega (arith, c.requires.1))
+    (ground.table_fits.size, notes_fit ground.table_fits (noted (goal.at.follow_noted-requires c).Then-end-notes) is within (onward ground.table_fits ground.closed c.args.s c.requires.1), c.requires.2, omega (arith, c.requires.1))
 
 pub returns-then-end-notes : goal.returns-then-end-notes
 returns-then-end-notes c =
     let ground = c.requires.0 in
     let is = part_is c.args.notes.now c.of_u32-first.ensures c.of_u32-end.ensures in
     let within = subst (λ (e : ℕ). e ≤ length c.args.notes.now) c.of_u32-end.ensures c.if-end-notes.true in
-    notes-done ground.table_fits (noted c) is within c.follow_noted.ensures
+    notes-done ground.table_fits (noted (goal.at.returns-then-end-notes c).Then-end-notes) is within c.follow_noted.ensures
 
 pub bounds-shapes-s : goal.bounds-shapes-s
 bounds-shapes-s c = let few = c.requires.0.closed.few in let size = c.requires.0.closed.size in omega arith

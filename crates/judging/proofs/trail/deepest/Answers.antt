@@ -1,11 +1,11 @@
 -- `trail::deepest` meets its contract: the best node so far is the deepest of those passed where a fresh link leads. Assumes nothing.
 use mathlib.Core.Path.{◌≡◌}
-use mathlib.Core.Logic.{⊎_elim}
 use native.Mathlib.Omega.{arith}
 use borrow.Author.Rules.{rules}
 use Rattle.judging.specs.Inner.Nodes.{link_of}
 use Rattle.judging.proofs.TrailLaws.{deepest_node, deepest_raised, deepest_same}
 use Rattle.judging.proofs.trail.deepest.Goals as goal
+use Rattle.judging.proofs.trail.deepest.Goals.{then-link_of-eq1+then-number, then-link_of-eq1+else-number, else-link_of-eq1}
 
 pub number-requires : goal.number-requires
 number-requires c =
@@ -16,11 +16,11 @@ loop-v-preserved c =
     let d = c.loop-v.invariant.1 in
     let code = c.link_of.ensures in (
       search rules,
-      ⊎_elim
-          (λ w. rw w.4 (deepest_raised d (omega (arith, w.0.taken)) (omega (arith, w.1.ensures, w.2.ensures, w.3.taken))))
-          (⊎_elim (λ w. rw w.4 (deepest_same d (λ e. omega (arith, w.1.ensures, w.2.ensures, w.3.left))))
-          (λ w. rw w.1 (deepest_same d (λ e. absurd (w.0.left (omega arith))))))
-          c.if-link_of-eq1.branch,
+      elim c.if-link_of-eq1.branch [
+        then-link_of-eq1+then-number w ↦ rw w.best-is (deepest_raised d (omega arith) (omega arith))
+        | then-link_of-eq1+else-number w ↦ rw w.best-is (deepest_same d (λ e. omega arith))
+        | else-link_of-eq1 w ↦ rw w.best-is (deepest_same d (λ e. absurd (w.if-link_of-eq1.false (omega arith))))
+      ],
     )
 
 pub returns : goal.returns

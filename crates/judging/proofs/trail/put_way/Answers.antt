@@ -11,7 +11,7 @@ loop-at-init c = putting_way _ _ _ _ _ c.requires.1 c.requires.2 c.requires.3
 pub overflow_cast-x : goal.overflow_cast-x
 overflow_cast-x c =
     let falls = c.requires.0 in
-    omega (arith, falls c.loop-at.x c.loop-at.invariant.below, falls.few)
+    omega (arith, falls.before c.loop-at.x c.loop-at.invariant.below, falls.few)
 
 pub overflow_sub-x : goal.overflow_sub-x
 overflow_sub-x c =

@@ -8,11 +8,11 @@ loop-x-init c = counting _ _ _ c.requires.1
 
 pub overflow_cast-x : goal.overflow_cast-x
 overflow_cast-x c =
-    omega (arith, c.requires.0 c.loop-x.x c.loop-x.invariant.below, c.requires.0.few)
+    omega (arith, c.requires.0.before c.loop-x.x c.loop-x.invariant.below, c.requires.0.few)
 
 pub loop-x-smaller : goal.loop-x-smaller
 loop-x-smaller c =
-    omega (arith, c.requires.0 c.loop-x.x c.loop-x.invariant.below, c.loop-x-test.true)
+    omega (arith, c.requires.0.before c.loop-x.x c.loop-x.invariant.below, c.loop-x-test.true)
 
 pub loop-x-preserved : goal.loop-x-preserved
 loop-x-preserved c =
