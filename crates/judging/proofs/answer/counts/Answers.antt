@@ -1,6 +1,5 @@
 -- `answer::counts` meets its contract. Assumes nothing.
 use native.Mathlib.Omega.{arith}
-use borrow.Author.Rules.{rules}
 use Rattle.judging.proofs.Judged.{ones_few}
 use Rattle.judging.proofs.answer.counts.Goals as goal
 

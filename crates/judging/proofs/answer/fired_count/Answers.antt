@@ -2,7 +2,6 @@
 use mathlib.Core.Path.{◌≡◌}
 use Prim.Native.Nat.{◌<◌}
 use native.Mathlib.Omega.{arith}
-use borrow.Author.Rules.{rules}
 use lib.ListN.{length}
 use Rattle.judging.proofs.TrailLaws.{ones_more, ones_same}
 use Rattle.judging.proofs.answer.fired_count.Goals as goal

@@ -1,7 +1,6 @@
 -- `answer::fired_count` meets its contract: the count is that of the marks passed. Assumes nothing.
 use mathlib.Core.Path.{◌≡◌}
 use Prim.Native.Nat.{◌-◌, ◌≤◌}
-use borrow.Author.Rules.{rules}
 use Rattle.judging.specs.Inner.Found.{ones_in}
 use Rattle.judging.proofs.answer.fired_count.Given as goal
 

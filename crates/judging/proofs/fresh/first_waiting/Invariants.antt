@@ -1,6 +1,5 @@
 -- `fresh::first_waiting` meets its contract: the shapes passed have what their kinds have. Assumes nothing.
 use Prim.Native.Nat.{◌-◌, ◌≤◌}
-use borrow.Author.Rules.{rules}
 use Rattle.judging.specs.Inner.Fresh.{FirstWaiting}
 use Rattle.judging.proofs.fresh.first_waiting.Given as goal
 

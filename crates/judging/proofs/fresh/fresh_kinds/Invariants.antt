@@ -1,6 +1,5 @@
 -- `fresh::fresh_kinds` meets its contract: the kinds of the rules passed have their 1. Assumes nothing.
 use Prim.Native.Nat.{◌-◌, ◌≤◌}
-use borrow.Author.Rules.{rules}
 use Rattle.judging.specs.Inner.Fresh.{FreshKinds}
 use Rattle.judging.proofs.fresh.fresh_kinds.Given as goal
 

@@ -1,7 +1,6 @@
 -- `judging::kinds::by_kind` puts the rules by their kinds. The invariant: those from rule `r` on are put. Assumes nothing.
 use Prim.Native.Nat.{ℕ, ◌-◌, ◌≤◌}
 use native.Mathlib.Omega.{arith}
-use borrow.Author.Rules.{rules}
 use lib.ListN.{length-replicate, get_or-replicate}
 use Rattle.judging.proofs.KindLaws.{kind_low, linked_none, linked_more, linked_all}
 use Rattle.judging.proofs.kinds.by_kind.Goals as goal

@@ -1,5 +1,4 @@
 -- `judging::kinds::by_kind` puts the rules by their kinds. The invariant: those from rule `r` on are put. Assumes nothing.
-use borrow.Author.Rules.{rules}
 use Rattle.judging.proofs.KindLaws.{Linked}
 use Rattle.judging.proofs.kinds.by_kind.Given as goal
 

@@ -2,7 +2,6 @@
 use mathlib.Core.Path.{◌≡◌}
 use native.Mathlib.Omega.{arith}
 use borrow.Author.Rules.{rules}
-use Rattle.judging.specs.Inner.Nodes.{link_of}
 use Rattle.judging.proofs.TrailLaws.{deepest_node, deepest_raised, deepest_same}
 use Rattle.judging.proofs.trail.deepest.Goals as goal
 use Rattle.judging.proofs.trail.deepest.Goals.{then-link_of-eq1+then-number, then-link_of-eq1+else-number, else-link_of-eq1}
