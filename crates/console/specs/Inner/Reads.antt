@@ -7,4 +7,4 @@ use Rattle.console.specs.declared.Got.TheVariants.{Some, Ended, Failed}
 abbrev pub Fits : Got → ℕ → ℕ → Type 0
 Fits (Some n) done size = (0 < n) × (done + n ≤ size)
 Fits Ended done size = Unit {0}
-Fits Failed done size = Unit {0}
+Fits (Failed _) done size = Unit {0}

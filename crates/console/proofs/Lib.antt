@@ -1,1 +1,0 @@
--- This crate's proofs need no laws of their own.
