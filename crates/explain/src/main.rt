@@ -6,23 +6,23 @@ use console::Input;
 use report::ReportAnswer;
 
 // Explains a text and prints the answer. The output has room for the longest that can be printed.
-fn print_explanation(text: &[u8]) {
+fn print_explanation(rt: &(impl Print + Eprint), text: &[u8]) {
     let mut output = [0; 299008];
     match explanation::explain_text(text, &mut output) {
         ReportAnswer::Bytes(size) => {
-            console::print(console::front(&output, size));
+            console::print(rt, console::front(&output, size));
         }
         ReportAnswer::OutputShort => {}
     }
 }
 
 // There is room for one byte more than the longest text: a longer one is seen by its first 32,769 bytes.
-fn main() {
+fn main(rt: HostRuntime) {
     let mut text = [0; 32769];
     let usage =
         b"usage: explain [FILE]\nExplains in sentences why the sheet in FILE is endless, or that in standard input where FILE is - or none is named.\n";
-    match console::read_input(usage, &mut text) {
-        Input::Text(size) => print_explanation(console::front(&text, size)),
+    match console::read_input(&rt, usage, &mut text) {
+        Input::Text(size) => print_explanation(&rt, console::front(&text, size)),
         Input::Nothing => {}
     }
 }
