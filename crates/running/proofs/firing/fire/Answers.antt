@@ -11,22 +11,22 @@ use Rattle.running.specs.Inner.Held.{unpacked, rows_at}
 use Rattle.running.specs.Inner.Firing.{rule_at, row_no, head_no, RecordIn, with_made}
 use Rattle.running.proofs.FiringLaws.{ready_row, made_narrow, made_whole, made_all, grown-none, grown_head, made-packed, grown_over_whole, grown_as, stored_record}
 use Rattle.running.proofs.firing.fire.Goals as goal
-use Rattle.running.proofs.firing.fire.Goals.{After-made-arg, In-loop-h}
+use Rattle.running.proofs.firing.fire.Goals.{In-loop-h}
 
 there : (c : In-loop-h) → c.loop-h.h < get_or (row_bytes c.args.table.now c.args.r) 28 0
 there c = omega (arith, c.rule_byte-heads.ensures.0, c.loop-h-test.true)
 
 -- The record is where it was.
-now-in : (c : After-made-arg) → RecordIn c.loop-h.rows c.args.i
+now-in : (c : In-loop-h) → RecordIn c.loop-h.rows c.args.i
 now-in c =
     let v = c.loop-h.invariant in
     stored_record (v.2.stored v.1) c.args.i (omega (arith, v.2.more, c.requires.1))
 
-now-fires : (c : After-made-arg) → FiresOn (rule_at c.args.table.now c.args.r) (row_no c.loop-h.rows c.args.i)
+now-fires : (c : In-loop-h) → FiresOn (rule_at c.args.table.now c.args.r) (row_no c.loop-h.rows c.args.i)
 now-fires c =
     subst (λ (row : List ℕ). FiresOn (rule_at c.args.table.now c.args.r) (unpacked row)) (sym (c.loop-h.invariant.2.same c.args.i c.requires.1)) c.requires.4
 
-narrow : (c : After-made-arg)
+narrow : (c : In-loop-h)
     → length (row_made c.args.c.next (rule_at c.args.table.now c.args.r) (row_no c.loop-h.rows c.args.i)
     (head_no (row_bytes c.args.table.now c.args.r) c.loop-h.h)).numbers ≤ 6
 narrow c = made_narrow c.requires.2 c.loop-h.h (there c) (now-in c).packed (now-fires c) c.args.c.next
@@ -36,13 +36,13 @@ loop-h-init c = (omega arith, c.requires.0.few, grown-none c.requires.0)
 
 pub made-row-requires : goal.made-row-requires
 made-row-requires c =
-    (now-in (goal.at.made-row-requires c).After-made-arg, c.requires.2, there (goal.at.made-row-requires c).In-loop-h, c.requires.3, now-fires (goal.at.made-row-requires c).After-made-arg)
+    (now-in (goal.at.made-row-requires c).In-loop-h, c.requires.2, there (goal.at.made-row-requires c).In-loop-h, c.requires.3, now-fires (goal.at.made-row-requires c).In-loop-h)
 
 pub add-n-requires : goal.add-n-requires
 add-n-requires c =
     let loop = c.loop-h in
     let m = made-packed (row_made c.args.c.next (rule_at c.args.table.now c.args.r) (row_no loop.rows c.args.i) (head_no (row_bytes c.args.table.now c.args.r) loop.h))
-    c.made-row.ensures (narrow (goal.at.add-n-requires c).After-made-arg) in
+    c.made-row.ensures (narrow (goal.at.add-n-requires c).In-loop-h) in
     (loop.invariant.2.stored loop.invariant.1, m.0, m.1)
 
 pub returns-then-n-gt4096 : goal.returns-then-n-gt4096

@@ -17,18 +17,27 @@ row : (c : Start) → RowFits (row_bytes c.args.table.now c.args.r)
 row c = row_fits c.args.table.now c.args.rules c.args.r c.requires.1 c.requires.2
 
 width : (c : After-rule_byte-width) → Width (rule_at c.args.table.now c.args.r).marks c.rule_byte-width.result
-width c = width_read (row c) c.rule_byte-width.result c.rule_byte-width.ensures.0
+width c = width_read (row_fits c.args.table.now c.args.rules c.args.r c.requires.1 c.requires.2) c.rule_byte-width.result c.rule_byte-width.ensures.0
 
 below : (c : In-loop-k) → c.loop-k.k < length (rule_at c.args.table.now c.args.r).marks
-below c = let w = width c in omega (arith, w.is)
+below c =
+    let w = width_read (row_fits c.args.table.now c.args.rules c.args.r c.requires.1 c.requires.2) c.rule_byte-width.result c.rule_byte-width.ensures.0 in
+    omega (arith, w.is)
 
 mark : (c : After-rule_byte-mark) → Mark (rule_at c.args.table.now c.args.r).marks c.loop-k.k c.rule_byte-mark.result
-mark c = mark_read (row c) c.loop-k.k c.rule_byte-mark.result (below c) c.rule_byte-mark.ensures.0
+mark c =
+    let row = row_fits c.args.table.now c.args.rules c.args.r c.requires.1 c.requires.2 in
+    let w = width_read row c.rule_byte-width.result c.rule_byte-width.ensures.0 in
+    mark_read row c.loop-k.k c.rule_byte-mark.result (omega (arith, w.is)) c.rule_byte-mark.ensures.0
 
 first : (c : After-rule_byte-place) → c.rule_byte-place.result ≡ 1 + first_field (rule_at c.args.table.now c.args.r).marks c.loop-k.k
 first c =
-    let a = place_field (row c) c.loop-k.k c.rule_byte-mark.result c.rule_byte-place.result (mark c) c.rule_byte-place.ensures.0 in
-    let b = place-some (row c) c.loop-k.k c.rule_byte-mark.result c.rule_byte-place.result (below c) (mark c) c.rule_byte-place.ensures.0 in
+    let row = row_fits c.args.table.now c.args.rules c.args.r c.requires.1 c.requires.2 in
+    let w = width_read row c.rule_byte-width.result c.rule_byte-width.ensures.0 in
+    let below : c.loop-k.k < length (rule_at c.args.table.now c.args.r).marks = omega (arith, w.is) in
+    let mark = mark_read row c.loop-k.k c.rule_byte-mark.result below c.rule_byte-mark.ensures.0 in
+    let a = place_field row c.loop-k.k c.rule_byte-mark.result c.rule_byte-place.result mark c.rule_byte-place.ensures.0 in
+    let b = place-some row c.loop-k.k c.rule_byte-mark.result c.rule_byte-place.result below mark c.rule_byte-place.ensures.0 in
     omega arith
 
 pub returns-then-rule_byte-width : goal.returns-then-rule_byte-width

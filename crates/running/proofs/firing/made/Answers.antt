@@ -15,20 +15,22 @@ use Rattle.running.proofs.FiringLaws.{ready_row, mark_above, in_get_or, made_siz
 use Rattle.running.proofs.firing.made.Goals as goal
 use Rattle.running.proofs.firing.made.Goals.{After-rule_byte-mark, After-rule_byte-width, In-loop-k, Start}
 
-row : (c : Start) → RowFits (row_bytes c.args.table.now c.args.r)
-row c = ready_row c.requires.1
-
 few-heads : (c : Start) → c.args.h < 4
-few-heads c = head_below (row_bytes c.args.table.now c.args.r) (row c).size (row c).ranges c.args.h c.requires.2
+few-heads c = head_below (row_bytes c.args.table.now c.args.r) (ready_row c.requires.1).size (ready_row c.requires.1).fits c.args.h c.requires.2
 
 width : (c : After-rule_byte-width) → Width (head_no (row_bytes c.args.table.now c.args.r) c.args.h).marks c.rule_byte-width.result
-width c = head_width_read (row c) c.args.h c.requires.2 c.rule_byte-width.result c.rule_byte-width.ensures.0
+width c = head_width_read (ready_row c.requires.1) c.args.h c.requires.2 c.rule_byte-width.result c.rule_byte-width.ensures.0
 
 below : (c : In-loop-k) → c.loop-k.k < length (head_no (row_bytes c.args.table.now c.args.r) c.args.h).marks
-below c = omega (arith, (width c).is, c.loop-k-test.true)
+below c =
+    let w = head_width_read (ready_row c.requires.1) c.args.h c.requires.2 c.rule_byte-width.result c.rule_byte-width.ensures.0 in
+    omega (arith, w.is, c.loop-k-test.true)
 
 mark : (c : After-rule_byte-mark) → Mark (head_no (row_bytes c.args.table.now c.args.r) c.args.h).marks c.loop-k.k c.rule_byte-mark.result
-mark c = head_mark_read (row c) c.args.h c.requires.2 c.loop-k.k c.rule_byte-mark.result (below c) c.rule_byte-mark.ensures.0
+mark c =
+    let row = ready_row c.requires.1 in
+    let w = head_width_read row c.args.h c.requires.2 c.rule_byte-width.result c.rule_byte-width.ensures.0 in
+    head_mark_read row c.args.h c.requires.2 c.loop-k.k c.rule_byte-mark.result (omega (arith, w.is, c.loop-k-test.true)) c.rule_byte-mark.ensures.0
 
 pub overflow_mul-at : goal.overflow_mul-at
 overflow_mul-at c = omega (arith, few-heads (goal.at.overflow_mul-at c).Start)

@@ -9,21 +9,20 @@ use Rattle.running.specs.Inner.Held.{row_at}
 use Rattle.running.specs.Inner.Firing.{rule_at, value_from}
 use Rattle.running.proofs.FiringLaws.{value_place}
 use Rattle.running.proofs.firing.number.Goals as goal
-use Rattle.running.proofs.firing.number.Goals.{After-rule_byte-place, Start}
-
-row : (c : Start) → RowFits (row_bytes c.args.table.now c.args.r)
-row c = row_fits c.args.table.now c.args.rules c.args.r c.requires.1 c.requires.2
+use Rattle.running.proofs.firing.number.Goals.{After-rule_byte-place, Then-place-eq0}
 
 place : (c : After-rule_byte-place) → c.rule_byte-place.result ≡ first_place c.args.mark (rule_at c.args.table.now c.args.r).marks
-place c = place_read (row c) c.args.mark c.rule_byte-place.result c.requires.3 c.rule_byte-place.ensures.0
+place c = place_read (row_fits c.args.table.now c.args.rules c.args.r c.requires.1 c.requires.2) c.args.mark c.rule_byte-place.result c.requires.3 c.rule_byte-place.ensures.0
 
 few : (c : After-rule_byte-place) → c.rule_byte-place.result ≤ 6
-few c = place_few (row c) c.args.mark c.rule_byte-place.result c.requires.3 c.rule_byte-place.ensures.0
+few c = place_few (row_fits c.args.table.now c.args.rules c.args.r c.requires.1 c.requires.2) c.args.mark c.rule_byte-place.result c.requires.3 c.rule_byte-place.ensures.0
 
-none : (c : tie.Then1) → first_place c.args.mark (rule_at c.args.table.now c.args.r).marks ≡ 0
-none c = sym (place c) ∙ c.if-place-eq0.true
+none : (c : Then-place-eq0) → first_place c.args.mark (rule_at c.args.table.now c.args.r).marks ≡ 0
+none c =
+    sym (place_read (row_fits c.args.table.now c.args.rules c.args.r c.requires.1 c.requires.2) c.args.mark c.rule_byte-place.result c.requires.3 c.rule_byte-place.ensures.0)
+    ∙ c.if-place-eq0.true
 
-low-mark : (c : tie.Then1) → c.args.low < c.args.mark
+low-mark : (c : Then-place-eq0) → c.args.low < c.args.mark
 low-mark c = c.requires.5 (none c)
 
 pub overflow_sub-result : goal.overflow_sub-result

@@ -1,6 +1,5 @@
 -- `firings_of` meets its contract: the pairs that are noted are those of the rule on the records passed. Assumes nothing.
 use mathlib.Core.Path.{sym, ◌∙◌, subst}
-use mathlib.Core.Logic.{⊎_elim}
 use native.Mathlib.Omega.{arith}
 use borrow.Author.Rules.{rules}
 use Rattle.rules.specs.Inner.Tests.{Decides}
@@ -8,10 +7,9 @@ use Rattle.carrying.specs.Carrying.{FiresOn}
 use Rattle.running.specs.Inner.Firing.{rule_at, row_no}
 use Rattle.running.proofs.CountLaws.{counting_begun, counting_record, counting_idle, counting_records, counting_bucket, counting_room, counting_there, counting_new, counting_as, counting_done}
 use Rattle.running.proofs.firings.firings_of.Goals as goal
+use Rattle.running.proofs.firings.firings_of.Goals.{Then-fires, then-fires+then-find-n, then-fires+else-find-n, else-fires}
 
-fires : (c : tie.Then1 invariant-loop decreases-loop)
-    → FiresOn (rule_at c.args.table.now c.args.r)
-    (row_no c.args.rows.now c.loop-i.i)
+fires : (c : Then-fires) → FiresOn (rule_at c.args.table.now c.args.r) (row_no c.args.rows.now c.loop-i.i)
 fires c =
     let a = c.args in
     subst (Decides (FiresOn (rule_at a.table.now a.r) (row_no a.rows.now c.loop-i.i))) c.if-fires.true c.fires.ensures
@@ -33,18 +31,18 @@ find-requires c =
     let k = c.loop-i.invariant in
     let b = c.bucket-b in (
       counting_record k c.loop-i-test.true,
-      counting_records k c.loop-i-test.true c.requires.2 c.requires.3 (fires c),
+      counting_records k c.loop-i-test.true c.requires.2 c.requires.3 (fires (goal.at.find-requires c).Then-fires),
       c.requires.2,
       c.requires.3,
       b.ensures.1,
-      counting_bucket k c.loop-i-test.true c.requires.2 c.requires.3 (fires c) b.result b.ensures.0,
+      counting_bucket k c.loop-i-test.true c.requires.2 c.requires.3 (fires (goal.at.find-requires c).Then-fires) b.result b.ensures.0,
     )
 
 pub note-requires : goal.note-requires
 note-requires c =
     let k = c.loop-i.invariant in (
       k.running.stored.size,
-      counting_room k c.loop-i-test.true c.requires.2 c.requires.3 (fires c),
+      counting_room k c.loop-i-test.true c.requires.2 c.requires.3 (fires (goal.at.note-requires c).Then-fires),
       omega (arith, c.requires.2.few, c.requires.3),
       (counting_record k c.loop-i-test.true).small,
       c.bucket-b.ensures.1,
@@ -55,16 +53,15 @@ loop-i-preserved c =
     let a = c.args in
     let k = c.loop-i.invariant in
     let more = c.loop-i-test.true in
-    ⊎_elim
-    (λ w. counting_as
-    (counting_new k more c.requires.2 c.requires.3 (fires (record { before = c; if1 = w.0 })) w.3.result w.3.ensures w.4.taken w.1.result w.1.ensures.1 w.1.ensures.0)
-    (w.9 ∙ w.6.ensures) w.10)
-    (⊎_elim
-    (λ w. counting_as (counting_there k more c.requires.2 c.requires.3 (fires (record { before = c; if1 = w.0 })) w.3.result w.3.ensures w.4.left) w.5 w.6)
-    (λ w. counting_as
-    (counting_idle k more (subst (Decides (FiresOn (rule_at a.table.now a.r) (row_no a.rows.now c.loop-i.i))) w.0.left c.fires.ensures))
-    w.1 w.2))
-    c.if-fires.branch
+    elim c.if-fires.branch [
+      then-fires+then-find-n w ↦
+          counting_as
+          (counting_new k more c.requires.2 c.requires.3 (subst (Decides (FiresOn (rule_at a.table.now a.r) (row_no a.rows.now c.loop-i.i))) w.if-fires.true c.fires.ensures) w.find.result w.find.ensures w.if-find-n.true w.bucket-b.result w.bucket-b.ensures.1 w.bucket-b.ensures.0)
+          (w.index-is ∙ w.note.ensures) w.n-is
+      | then-fires+else-find-n w ↦
+          counting_as (counting_there k more c.requires.2 c.requires.3 (subst (Decides (FiresOn (rule_at a.table.now a.r) (row_no a.rows.now c.loop-i.i))) w.if-fires.true c.fires.ensures) w.find.result w.find.ensures w.if-find-n.false) w.index-is w.n-is
+      | else-fires w ↦ counting_as (counting_idle k more (subst (Decides (FiresOn (rule_at a.table.now a.r) (row_no a.rows.now c.loop-i.i))) w.if-fires.false c.fires.ensures)) w.index-is w.n-is
+    ]
 
 pub shape_of-index : goal.shape_of-index
 shape_of-index c = c.loop-i.invariant.running.stored.size ∙ sym c.requires.0.size

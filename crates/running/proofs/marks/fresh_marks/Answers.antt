@@ -10,9 +10,9 @@ use Rattle.rules.proofs.RuleLaws.{row_fits, width_read, rule_kind}
 use Rattle.running.specs.Inner.Firing.{rule_at}
 use Rattle.running.proofs.MarkLaws.{prepared_none, prepared_more, prepared_all, low_of, top_of, all_most, top_from, low_read, top_read, keeping_all}
 use Rattle.running.proofs.marks.fresh_marks.Goals as goal
-use Rattle.running.proofs.marks.fresh_marks.Goals.{After-top-low, After-top_heads}
+use Rattle.running.proofs.marks.fresh_marks.Goals.{After-top_heads}
 
-low : (c : After-top-low) → c.top-low.result ≡ low_of (rule_at c.args.table.now c.loop-r.r)
+low : (c : After-top_heads) → c.top-low.result ≡ low_of (rule_at c.args.table.now c.loop-r.r)
 low c =
     low_read (row_bytes c.args.table.now c.loop-r.r) c.rule_byte.result c.top-low.result c.rule_byte.ensures.0 c.top-low.ensures
 
@@ -91,7 +91,7 @@ bounds-fresh-r-in-loop-r-3 c = let f = room (goal.at.bounds-fresh-r-in-loop-r-3 
 pub loop-r-preserved : goal.loop-r-preserved
 loop-r-preserved c =
     prepared_more c.loop-r.invariant (room (goal.at.loop-r-preserved c).After-top_heads) c.top-low.result (c.top_heads.result - c.top-low.result) c.larger.result c.rule_byte-in-loop-r.result
-    (low (goal.at.loop-r-preserved c).After-top-low) (omega (arith, all (goal.at.loop-r-preserved c).After-top_heads, low (goal.at.loop-r-preserved c).After-top-low)) c.larger.ensures
+    (low (goal.at.loop-r-preserved c).After-top_heads) (omega (arith, all (goal.at.loop-r-preserved c).After-top_heads, low (goal.at.loop-r-preserved c).After-top_heads)) c.larger.ensures
     (c.rule_byte-in-loop-r.ensures.0 ∙ rule_kind (row_bytes c.args.table.now c.loop-r.r))
 
 pub returns : goal.returns

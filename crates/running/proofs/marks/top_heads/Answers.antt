@@ -16,11 +16,13 @@ there : (c : In-loop-h) → c.loop-h.h < get_or (row_bytes c.args.table.now c.ar
 there c = omega (arith, c.loop-h-test.true, c.rule_byte-heads.ensures.0)
 
 few-heads : (c : In-loop-h) → c.loop-h.h < 4
-few-heads c =  head_below (row_bytes c.args.table.now c.args.r) (row c).size (row c).ranges c.loop-h.h (there c)
+few-heads c =
+    let row = row_fits c.args.table.now c.args.rules c.args.r c.requires.0 c.requires.1 in
+    head_below (row_bytes c.args.table.now c.args.r) row.size row.fits c.loop-h.h (there c)
 
 width_few : (c : After-rule_byte-count) → c.rule_byte-count.result ≤ 6
 width_few c =
-    (head_width_read (row c) c.loop-h.h (there c) c.rule_byte-count.result c.rule_byte-count.ensures.0).few
+    (head_width_read (row_fits c.args.table.now c.args.rules c.args.r c.requires.0 c.requires.1) c.loop-h.h (omega (arith, c.loop-h-test.true, c.rule_byte-heads.ensures.0)) c.rule_byte-count.result c.rule_byte-count.ensures.0).few
 
 pub rule_byte-count-requires : goal.rule_byte-count-requires
 rule_byte-count-requires c =

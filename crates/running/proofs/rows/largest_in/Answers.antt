@@ -1,6 +1,5 @@
 -- `running::rows::largest_in` meets its contract. The invariant: the largest of the numbers so far. Assumes nothing.
 use mathlib.Core.Path.{◌≡◌, ap, ◌∙◌}
-use mathlib.Core.Logic.{⊎_elim}
 use Prim.Native.Nat.{ℕ, ◌+◌, ◌-◌, ◌*◌}
 use native.Mathlib.Omega.{arith}
 use borrow.Author.Rules.{rules}
@@ -9,6 +8,7 @@ use Rattle.sheet.specs.Sheet.{top_mark}
 use Rattle.carrying.proofs.SheetMarks.{top_is}
 use Rattle.running.proofs.MarkLaws.{top_more}
 use Rattle.running.proofs.rows.largest_in.Goals as goal
+use Rattle.running.proofs.rows.largest_in.Goals.{then-t-x, else-t-x}
 
 pub loop-k-preserved : goal.loop-k-preserved
 loop-k-preserved c =
@@ -20,7 +20,7 @@ loop-k-preserved c =
     (omega (arith, c.requires, c.loop-k-test.true)) l.invariant.2
     (c.of_u32-x.ensures.0 ∙ ap (λ (j : ℕ). get_or a.lines.now j 0) e)
     ∙ ap (λ (j : ℕ). top_mark a.m (take j (drop (8 * a.n + 2) a.lines.now))) q in
-    (search rules, search rules, ⊎_elim (λ w. omega (arith, more, w.0.taken, w.1)) (λ w. omega (arith, more, w.0.left, w.1)) c.if-t-x.branch)
+    (search rules, search rules, elim c.if-t-x.branch [ then-t-x w ↦ omega (arith, more) | else-t-x w ↦ omega (arith, more) ])
 
 pub returns : goal.returns
 returns c =

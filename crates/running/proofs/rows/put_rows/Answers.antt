@@ -1,6 +1,5 @@
 -- `running::rows::put_rows` meets its contract. The invariant: where the reading of the lines stands, and the rows so far are put. The measure is the number of lines left. Assumes nothing.
 use mathlib.Core.Path.{sym, ◌∙◌}
-use mathlib.Core.Logic.{⊎_elim}
 use Prim.Native.Nat.{◌+◌, ◌*◌, ◌≤◌}
 use native.Mathlib.Omega.{arith}
 use borrow.Author.Rules.{rules}
@@ -12,7 +11,7 @@ use Rattle.running.proofs.FiringLaws.{made-packed}
 use Rattle.running.proofs.BeginLaws.{put-none, put_other, put-row, put_all, next_low, width_few, row_narrow}
 use Rattle.rules.specs.Inner.Rows.{row_numbers}
 use Rattle.running.proofs.rows.put_rows.Goals as goal
-use Rattle.running.proofs.rows.put_rows.Goals.{In-loop-n}
+use Rattle.running.proofs.rows.put_rows.Goals.{In-loop-n, then-letter-eq-LETTER_K, else-letter-eq-LETTER_K+then-letter-eq-LETTER_R, else-letter-eq-LETTER_K+else-letter-eq-LETTER_R}
 
 sheet : (i : In-loop-n) → SheetHeld i.args.lines.now
 sheet i = i.requires.0
@@ -69,14 +68,18 @@ pub loop-n-preserved : goal.loop-n-preserved
 loop-n-preserved c =
     let p = c.loop-n.invariant in
     let more = c.loop-n-test.true in
-    ⊎_elim
-    (λ w. rw (w.2, w.3, w.4, w.5, w.6) (put_other (sheet (goal.at.loop-n-preserved c).In-loop-n) p more (λ e. omega (arith, w.0.taken, e)) (read_kind _ _ _ _ (sheet (goal.at.loop-n-preserved c).In-loop-n) p.reading more w.0.taken)))
-    (λ u.
-    ⊎_elim
-    (λ w. rw (w.13, w.14, w.15, w.16, w.17) (put-row (sheet (goal.at.loop-n-preserved c).In-loop-n) p more w.1.taken w.2.result w.2.ensures.0 w.3.ensures.0 w.3.ensures.1 w.8.ensures))
-    (λ w. rw (w.2, w.3, w.4, w.5, w.6) (put_other (sheet (goal.at.loop-n-preserved c).In-loop-n) p more w.1.left (read_other _ _ _ _ (sheet (goal.at.loop-n-preserved c).In-loop-n) p.reading more w.0.left w.1.left)))
-    u)
-    c.if-letter-eq-LETTER_K.branch
+    let sheet = c.requires.0 in
+    elim c.if-letter-eq-LETTER_K.branch [
+      then-letter-eq-LETTER_K w ↦
+          rw (w.widths-is, w.rows-is, w.index-is, w.count-is, w.next-is)
+          (put_other sheet p more (λ e. omega (arith, w.if-letter-eq-LETTER_K.true, e)) (read_kind _ _ _ _ sheet p.reading more w.if-letter-eq-LETTER_K.true))
+      | else-letter-eq-LETTER_K+then-letter-eq-LETTER_R w ↦
+          rw (w.widths-is, w.rows-is, w.index-is, w.count-is, w.next-is)
+          (put-row sheet p more w.if-letter-eq-LETTER_R.true w.of_u32.result w.of_u32.ensures.0 w.row_at-filled.ensures.0 w.row_at-filled.ensures.1 w.add-count.ensures)
+      | else-letter-eq-LETTER_K+else-letter-eq-LETTER_R w ↦
+          rw (w.widths-is, w.rows-is, w.index-is, w.count-is, w.next-is)
+          (put_other sheet p more w.if-letter-eq-LETTER_R.false (read_other _ _ _ _ sheet p.reading more w.if-letter-eq-LETTER_K.false w.if-letter-eq-LETTER_R.false))
+    ]
 
 pub shape_of-rows : goal.shape_of-rows
 shape_of-rows c = c.loop-n.invariant.grown.room

@@ -1,6 +1,5 @@
 -- `running::rows::row_at` meets its contract. The invariant: the first numbers stand there, each 0 as the next number, and the rest is as it was. Assumes nothing.
 use mathlib.Core.Path.{sym, ap, ◌∙◌}
-use mathlib.Core.Logic.{⊎_elim}
 use Prim.Native.Nat.{ℕ, ◌+◌, ◌*◌, ◌<◌}
 use native.Mathlib.Omega.{arith}
 use borrow.Author.Rules.{rules}
@@ -11,6 +10,7 @@ use Rattle.carrying.proofs.FilledLaws.{length-filled}
 use Rattle.running.proofs.FillLaws.{row_size, row_number, filled_row, filling_none, filling_low, filling_zero, filling_other, filling_all}
 use Rattle.running.proofs.FiringLaws.{filled_row_lem}
 use Rattle.running.proofs.rows.row_at.Goals as goal
+use Rattle.running.proofs.rows.row_at.Goals.{then-x-eq0, else-x-eq0}
 
 pub loop-k-init : goal.loop-k-init
 loop-k-init c = (search rules, filling_none _ _ _)
@@ -30,8 +30,10 @@ loop-k-preserved c =
     let room : 1 + l.k < 7 = omega (arith, c.requires.1, c.loop-k-test.true) in
     let inside : l.k < length (row_numbers a.lines.now a.n a.width) = omega (arith, size, c.loop-k-test.true) in (
       search rules,
-      ⊎_elim (λ w. filling_zero l.invariant.1 (omega arith) room inside (here ∙ w.0.taken) w.2 w.1)
-          (λ w. filling_other l.invariant.1 (omega arith) room inside (λ e. w.0.left (sym here ∙ e)) (w.2 ∙ sym here) w.1) c.if-x-eq0.branch,
+      elim c.if-x-eq0.branch [
+        then-x-eq0 w ↦ filling_zero l.invariant.1 (omega arith) room inside (here ∙ w.if-x-eq0.true) w.x-is w.given-is
+        | else-x-eq0 w ↦ filling_other l.invariant.1 (omega arith) room inside (λ e. w.if-x-eq0.false (sym here ∙ e)) (w.x-is ∙ sym here) w.given-is
+      ],
     )
 
 pub returns : goal.returns
