@@ -25,7 +25,7 @@ long : (l : At-loop-c) → length l.loop-c.text ≡ length l.args.text.now
 long l =
     let e = begun l in
     ap length l.loop-c.invariant.1
-    ∙ columns_long l.args.numbers.now (lettered l) l.args.at l.loop-c.c l.loop-c.invariant.0 (omega (arith, l.pre.1, l.loop-c.invariant.0))
+    ∙ columns_long l.args.numbers.now (lettered l) l.args.at l.loop-c.c l.loop-c.invariant.0 (omega (arith, l.requires.1, l.loop-c.invariant.0))
     ∙ e
 
 in-range : (l : At-loop-c) → l.loop-c.c < length l.args.numbers.now → get_or l.args.numbers.now l.loop-c.c 0 ≤ largest_number

@@ -18,7 +18,7 @@ fill_line-requires c = (ap in_range c.verdict_numbers-numbers.ensures ∙ c.requ
 
 pub fill_steps-requires : goal.fill_steps-requires
 fill_steps-requires c =
-    let h = c.fill_line.auto.1.1.0 in
+    let h = c.fill_line.auto.text in
     (omega (arith, c.requires.1, c.requires.2), omega (arith, h, c.requires.1, c.requires.3))
 
 pub returns : goal.returns
