@@ -3,7 +3,7 @@ use mathlib.Core.Path.{◌≡◌}
 use mathlib.Core.List.{List}
 use Prim.Native.Nat.{ℕ}
 use lib.ListN.{length, replicate, length-replicate}
-use Rattle.rules.proofs.AnswerLaws.{not_short, lines_wrong, rules_held}
+use Rattle.rules.proofs.AnswerLaws.{lines_wrong, rules_held}
 use Rattle.judging.proofs.Judged.{steps-short, line-wrong}
 use Rattle.judging.proofs.judge.Goals as goal
 
@@ -28,8 +28,3 @@ returns-in-LineWrong c =
     let said = c.rules_of in
     line-wrong _ _ _ c.if-steps-lt20480.false
     (lines_wrong c.args.lines.now empty said.new.table room said.result said.ensures c.in-LineWrong.line c.in-LineWrong.is)
-
-pub returns-in-TableShort : goal.returns-in-TableShort
-returns-in-TableShort c =
-    let said = c.rules_of in
-    absurd (not_short c.args.lines.now empty said.new.table room said.result said.ensures c.in-TableShort.is)

@@ -1,5 +1,4 @@
 -- `answer::fired_count` meets its contract: the count is that of the marks passed. Assumes nothing.
-use mathlib.Core.Path.{◌≡◌}
 use Prim.Native.Nat.{◌<◌}
 use native.Mathlib.Omega.{arith}
 use lib.ListN.{length}
@@ -17,9 +16,3 @@ loop-r-preserved c =
       then-fired-r-eq1 w ↦ (omega arith, omega arith, omega (arith, ones_more r fired within w.if-fired-r-eq1.true))
       | else-fired-r-eq1 w ↦ (omega arith, omega arith, omega (arith, ones_same r fired within w.if-fired-r-eq1.false))
     ]
-
-pub returns : goal.returns
-returns c =
-    let r = c.loop-r.r in
-    let e : r ≡ c.args.rules = omega arith in
-    rw (← e) c.loop-r.invariant.2

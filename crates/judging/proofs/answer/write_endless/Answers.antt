@@ -2,18 +2,8 @@
 use mathlib.Core.Path.{refl}
 use Prim.Native.Nat.{◌/◌}
 use native.Mathlib.Omega.{arith}
-use Rattle.judging.proofs.TrailLaws.{turn_stays, wrote_endless}
+use Rattle.judging.proofs.TrailLaws.{wrote_endless}
 use Rattle.judging.proofs.answer.write_endless.Goals as goal
-
-pub put_links-requires : goal.put_links-requires
-put_links-requires c =
-    let lent = c.requires.0 in
-    let few = lent.falls.few in
-    let room = lent.room in
-    let short = c.way_length-way.ensures.short in
-    let turns = c.turn_length-turns.ensures.few in
-    let kept = c.put_way-row.auto.steps in
-    (turn_stays c.requires.2 (omega arith) _, omega arith)
 
 pub returns : goal.returns
 returns c =

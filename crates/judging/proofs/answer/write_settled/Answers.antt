@@ -2,43 +2,8 @@
 use mathlib.Core.Path.{refl}
 use Prim.Native.Nat.{◌/◌}
 use native.Mathlib.Omega.{arith}
-use Rattle.judging.proofs.TrailLaws.{line_nodes, line_stays, wrote_settled}
+use Rattle.judging.proofs.TrailLaws.{line_nodes, wrote_settled}
 use Rattle.judging.proofs.answer.write_settled.Goals as goal
-
-pub line_start-start-requires : goal.line_start-start-requires
-line_start-start-requires c =
-    let few = c.requires.0.falls.few in
-    line_stays c.requires.3 c.line_length-line.ensures (omega arith)
-
-pub way_length-way-requires : goal.way_length-way-requires
-way_length-way-requires c =
-    let below = line_nodes c.requires.3 c.line_length-line.ensures c.line_length-line.result (omega arith) in
-    let from = c.line_start-start.ensures in
-    (c.requires.0.falls, omega arith)
-
-pub put_way-row-requires : goal.put_way-row-requires
-put_way-row-requires c =
-    let lent = c.requires.0 in
-    let few = lent.falls.few in
-    let room = lent.room in
-    let line = c.line_length-line in
-    let below = line_nodes c.requires.3 line.ensures line.result (omega arith) in
-    let from = c.line_start-start.ensures in
-    let short = c.way_length-way.ensures.short in
-    (lent.falls, omega arith, c.way_length-way.ensures, omega arith)
-
-pub put_links-requires : goal.put_links-requires
-put_links-requires c =
-    let lent = c.requires.0 in
-    let few = lent.falls.few in
-    let room = lent.room in
-    let line = c.line_length-line in
-    let links = line.ensures.few in
-    let below = line_nodes c.requires.3 line.ensures line.result (omega arith) in
-    let from = c.line_start-start.ensures in
-    let short = c.way_length-way.ensures.short in
-    let kept = c.put_way-row.auto.steps in
-    (λ j l. line_stays c.requires.3 line.ensures (omega arith) j (omega arith), omega arith)
 
 pub returns : goal.returns
 returns c =

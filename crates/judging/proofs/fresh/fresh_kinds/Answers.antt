@@ -1,26 +1,9 @@
 -- `fresh::fresh_kinds` meets its contract: the kinds of the rules passed have their 1. Assumes nothing.
-use Prim.Native.Nat.{ℕ}
 use native.Mathlib.Omega.{arith}
-use lib.ListN.{length-replicate}
-use Rattle.judging.proofs.FreshLaws.{kinds_none, kinds_same, kinds_more, kinds_all}
+use Rattle.judging.proofs.FreshLaws.{kinds_same, kinds_more}
 use Rattle.judging.proofs.KindLaws.{kind_low}
 use Rattle.judging.proofs.fresh.fresh_kinds.Goals as goal
 use Rattle.judging.proofs.fresh.fresh_kinds.Goals.{then-rule_fresh, else-rule_fresh}
-
-pub loop-r-init : goal.loop-r-init
-loop-r-init c = (omega arith, kinds_none (length-replicate {A = ℕ} 65 0))
-
-pub rule_fresh-requires : goal.rule_fresh-requires
-rule_fresh-requires c =
-    let few = c.requires.few in
-    let t = c.loop-r-test.true in
-    (c.requires.size, omega arith, c.requires.each c.loop-r.r t)
-
-pub rule_byte-kind-requires : goal.rule_byte-kind-requires
-rule_byte-kind-requires c =
-    let few = c.requires.few in
-    let t = c.loop-r-test.true in
-    (c.requires.size, omega arith, omega arith)
 
 pub bounds-kinds-kind : goal.bounds-kinds-kind
 bounds-kinds-kind c =
@@ -39,6 +22,3 @@ loop-r-preserved c =
         | else-rule_fresh w ↦ rw w.kinds-is (kinds_same c.loop-r.invariant.1 (rw w.if-rule_fresh.false at c.rule_fresh.ensures))
       ],
     )
-
-pub returns : goal.returns
-returns c = kinds_all c.loop-r.invariant.1 c.loop-r.invariant.0 c.loop-r-test.false

@@ -7,23 +7,12 @@ use Rattle.rules.proofs.TableLaws.{row_size}
 use Rattle.judging.proofs.LinkLaws.{line_bytes}
 use Rattle.judging.proofs.fresh.rule_fresh.Goals as goal
 
-pub rule_byte-heads-requires : goal.rule_byte-heads-requires
-rule_byte-heads-requires c = (c.requires.0, c.requires.1, omega arith)
-
-pub loop-h-init : goal.loop-h-init
-loop-h-init c = (omega arith, λ i l _. let z : ⊥ = omega arith in z)
-
 pub head_fresh-requires : goal.head_fresh-requires
 head_fresh-requires c =
     let table = c.args.table.now in
     let r = c.args.r in
     let e = c.rule_byte-heads.ensures.0 in
     (c.requires.0, c.requires.1, line_bytes (row_bytes table r) c.loop-h.h (row_size table r c.requires.0 c.requires.1) c.requires.2 (omega arith))
-
-pub returns-then-head_fresh : goal.returns-then-head_fresh
-returns-then-head_fresh c =
-    let e = c.rule_byte-heads.ensures.0 in
-    record { h = c.loop-h.h; below = omega arith; head = rw c.if-head_fresh.true at c.head_fresh.ensures }
 
 pub loop-h-preserved : goal.loop-h-preserved
 loop-h-preserved c =

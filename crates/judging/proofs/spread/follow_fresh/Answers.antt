@@ -2,11 +2,6 @@
 use Rattle.judging.proofs.PassLaws.{fresh-none, fresh-best}
 use Rattle.judging.proofs.spread.follow_fresh.Goals as goal
 
-pub follow-requires : goal.follow-requires
-follow-requires c =
-    let best = rw c.in-Place.is at c.best_source.ensures in
-    (c.requires.2, best.place, c.requires.3, c.requires.4, c.requires.5)
-
 pub returns-in-Nowhere : goal.returns-in-Nowhere
 returns-in-Nowhere c = fresh-none c.requires.2 (rw c.in-Nowhere.is at c.best_source.ensures)
 

@@ -1,11 +1,9 @@
 -- `spread::follow_shape` meets its contract: by the notes of the search, or by those made anew. Assumes nothing.
-use mathlib.Core.Path.{◌≡◌, refl, sym, ap, subst, ◌∙◌}
+use mathlib.Core.Path.{◌≡◌, refl, ap, subst, ◌∙◌}
 use mathlib.Core.List.{List}
 use Prim.Native.Nat.{ℕ, ◌+◌, ◌-◌, ◌≤◌}
 use native.Mathlib.Omega.{arith}
-use borrow.Author.Rules.{rules}
 use lib.ListN.{length, get_or, take, drop}
-use lib.Seq.{length-take-le}
 use Rattle.judging.specs.Inner.Noted.{ShapeNotes}
 use Rattle.judging.proofs.NoteLaws.{notes_fit, notes-done, onward_all}
 use Rattle.judging.proofs.GraphLaws.{onward}
@@ -29,36 +27,6 @@ noted : (c : Then-end-notes)
 noted c =
     c.requires.0.noted.each c.args.s c.requires.1 (subst (λ (e : ℕ). e ≤ length c.args.notes.now) c.of_u32-end.ensures c.if-end-notes.true)
 
-pub overflow_mul-n : goal.overflow_mul-n
-overflow_mul-n c = let few = c.requires.0.closed.few in omega arith
-
-pub offset_bounds-starts-s : goal.offset_bounds-starts-s
-offset_bounds-starts-s c = let few = c.requires.0.closed.few in omega arith
-
-pub bounds-starts-s : goal.bounds-starts-s
-bounds-starts-s c = let few = c.requires.0.closed.few in let size = c.requires.0.noted.size_starts in omega arith
-
-pub overflow_add-s : goal.overflow_add-s
-overflow_add-s c = let few = c.requires.0.closed.few in omega arith
-
-pub offset_bounds-starts-s-2 : goal.offset_bounds-starts-s-2
-offset_bounds-starts-s-2 c = let few = c.requires.0.closed.few in omega arith
-
-pub bounds-starts-s-2 : goal.bounds-starts-s-2
-bounds-starts-s-2 c = let few = c.requires.0.closed.few in let size = c.requires.0.noted.size_starts in omega arith
-
-pub offset_bounds-notes-first : goal.offset_bounds-notes-first
-offset_bounds-notes-first c =
-    let b = (noted (goal.at.offset_bounds-notes-first c).Then-end-notes).begun in
-    let few = c.requires.0.noted.few in
-    omega (arith, c.of_u32-end.ensures, c.of_u32-first.ensures, c.if-end-notes.true)
-
-pub slice_bounds-follow_noted-count : goal.slice_bounds-follow_noted-count
-slice_bounds-follow_noted-count c = let b = (noted (goal.at.slice_bounds-follow_noted-count c).Then-end-notes).begun in omega (arith, c.of_u32-end.ensures, c.of_u32-first.ensures)
-
-pub slice_bounds-follow_noted-start : goal.slice_bounds-follow_noted-start
-slice_bounds-follow_noted-start c = let b = (noted (goal.at.slice_bounds-follow_noted-start c).Then-end-notes).begun in omega (arith, c.of_u32-end.ensures, c.of_u32-first.ensures)
-
 pub follow_noted-requires : goal.follow_noted-requires
 follow_noted-requires c =
     let ground = c.requires.0 in
@@ -73,9 +41,6 @@ returns-then-end-notes c =
     let within = subst (λ (e : ℕ). e ≤ length c.args.notes.now) c.of_u32-end.ensures c.if-end-notes.true in
     notes-done ground.table_fits (noted (goal.at.returns-then-end-notes c).Then-end-notes) is within c.follow_noted.ensures
 
-pub bounds-shapes-s : goal.bounds-shapes-s
-bounds-shapes-s c = let few = c.requires.0.closed.few in let size = c.requires.0.closed.size in omega arith
-
 pub note_shape-noted-requires : goal.note_shape-noted-requires
 note_shape-noted-requires c =
     let ground = c.requires.0 in
@@ -83,9 +48,6 @@ note_shape-noted-requires c =
     let low = c.requires.1 in
     let is = c.of_u32.ensures in
     rw is (ground.table_fits, closed.size_index, closed.small _ low, closed.fits _ low, onward_all (onward ground.table_fits closed _ low) c.requires.2.small, ground.by_kind, refl)
-
-pub slice_bounds-follow_noted-end-2 : goal.slice_bounds-follow_noted-end-2
-slice_bounds-follow_noted-end-2 c = let made = c.note_shape-noted.ensures in sym (length-take-le _ _ (rw made.0 made.1))
 
 pub follow_noted-requires-2 : goal.follow_noted-requires-2
 follow_noted-requires-2 c =

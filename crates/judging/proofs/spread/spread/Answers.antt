@@ -5,21 +5,8 @@ use Rattle.judging.proofs.PassLaws.{calm_is, not_calm}
 use Rattle.judging.proofs.RoundLaws.{height, nothing, settled, inside, again, endless, no_turn, some_turn}
 use Rattle.judging.proofs.spread.spread.Goals as goal
 
-pub overflow_mul-n : goal.overflow_mul-n
-overflow_mul-n c = let f = c.requires.0.closed.few in omega arith
-
-pub first_waiting-waiting-requires : goal.first_waiting-waiting-requires
-first_waiting-waiting-requires c = let ground = c.requires.0 in (ground.table_fits, ground.closed.size, ground.closed.few, ground.closed.small)
-
-pub order_of-order-requires : goal.order_of-order-requires
-order_of-order-requires c =
-    let ground = c.requires.0 in (c.first_waiting-waiting.ensures.size, ground.noted.few, ground.noted.size_starts, ground.closed.few)
-
 pub loop-waiting-init : goal.loop-waiting-init
 loop-waiting-init c = nothing c.requires.0.table_fits c.requires.0.closed c.requires.1 c.requires.2 c.first_waiting-waiting.ensures
-
-pub sweep-last-requires : goal.sweep-last-requires
-sweep-last-requires c = (c.requires.0, c.order_of-order.ensures, c.loop-waiting.invariant.live, c.loop-waiting.invariant.rests)
 
 pub returns-then-is_calm : goal.returns-then-is_calm
 returns-then-is_calm c =

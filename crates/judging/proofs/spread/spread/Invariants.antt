@@ -1,6 +1,5 @@
 -- `spread::spread` meets its contract. Assumes nothing.
 use Prim.Native.Nat.{◌-◌, ◌*◌}
-use borrow.Author.Rules.{rules}
 use Rattle.judging.specs.Inner.Nodes.{at}
 use Rattle.judging.specs.Inner.Passes.{sum_to}
 use Rattle.judging.proofs.RoundLaws.{Round}

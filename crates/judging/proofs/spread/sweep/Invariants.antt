@@ -1,6 +1,5 @@
 -- `spread::sweep` meets its contract: the shapes so far, in the order, have had their turn. Assumes nothing.
 use Prim.Native.Nat.{◌-◌, ◌*◌, ◌≤◌}
-use borrow.Author.Rules.{rules}
 use Rattle.judging.specs.Inner.Passes.{EachLink}
 use Rattle.judging.proofs.SweepLaws.{Passed}
 use Rattle.judging.proofs.spread.sweep.Given as goal
