@@ -18,15 +18,15 @@ returns-then-places-ne24576 c = (inr c.if-places-ne24576.true, refl)
 pub run_rules-requires : goal.run_rules-requires
 run_rules-requires c =
     let said = c.rules_of in
-    let held = rules_held _ _ _ room _ said.ensures _ c.in-Rules.is in
+    let held = rules_held c.args.lines.now (replicate {A = ℕ} 16384 0) c.rules_of.new.table room c.rules_of.result said.ensures _ c.in-Rules.is in
     (held.0, c.if-rows-lt28672.false, c.if-places-ne24576.false, held.1, held.2)
 
 pub returns-in-LineWrong : goal.returns-in-LineWrong
 returns-in-LineWrong c =
     let said = c.rules_of in
-    (c.if-rows-lt28672.false, lines_wrong _ _ _ room _ said.ensures _ c.in-LineWrong.is, refl)
+    (c.if-rows-lt28672.false, lines_wrong c.args.lines.now (replicate {A = ℕ} 16384 0) c.rules_of.new.table room c.rules_of.result said.ensures _ c.in-LineWrong.is, refl)
 
 pub returns-in-TableShort : goal.returns-in-TableShort
 returns-in-TableShort c =
     let said = c.rules_of in
-    absurd (not_short _ _ _ room _ said.ensures c.in-TableShort.is)
+    absurd (not_short c.args.lines.now (replicate {A = ℕ} 16384 0) c.rules_of.new.table room c.rules_of.result said.ensures c.in-TableShort.is)

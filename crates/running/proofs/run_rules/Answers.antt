@@ -27,5 +27,5 @@ run_again-requires c =
 pub returns : goal.returns
 returns c =
     let w = c.run_with-noted.ensures in
-    meets_before c.args.rows.now c.run_with-noted.new.index c.requires.0 c.requires.1 (ran_room c.requires.0 c.requires.4 w) c.run_again.new.index _ w.ended.left.size _ c.requires.2 (run_says c.run_again.result)
+    meets_before c.args.rows.now c.run_with-noted.new.rows c.requires.0 c.requires.1 (ran_room c.requires.0 c.requires.4 w) c.run_again.new.rows _ w.ended.left.size _ c.requires.2 (run_says c.run_again.result)
     c.run_again.ensures
