@@ -8,7 +8,7 @@ put_line-requires c = tt
 
 pub fill_records-requires : goal.fill_records-requires
 fill_records-requires c =
-    (c.requires.0, omega (arith, c.put_line.auto.1.1.0, c.requires.2))
+    (c.requires.0, omega (arith, c.put_line.auto.text, c.requires.2))
 
 pub returns : goal.returns
 returns c =

@@ -1,5 +1,4 @@
 -- `listing::kind_widths` meets its contract. The invariant: the widths that the first n lines declare. The measure is the number of lines left. Assumes nothing.
-use mathlib.Core.Logic.{⊎_elim}
 use Prim.Native.Nat.{◌+◌, ◌*◌, ◌≤◌}
 use borrow.Author.Rules.{rules}
 use lib.ListN.{length, get_or}
@@ -7,7 +6,7 @@ use Rattle.rules.specs.Table.{SheetHeld}
 use Rattle.rules.proofs.RowLaws.{whole_line, kind_low}
 use Rattle.listing.proofs.WidthLaws.{widening_begun, widening_kind, widening_other, widening_done}
 use Rattle.listing.proofs.kind_widths.Goals as goal
-use Rattle.listing.proofs.kind_widths.Goals.{In-loop-n}
+use Rattle.listing.proofs.kind_widths.Goals.{In-loop-n, then-lines-n-eq-LETTER_K, else-lines-n-eq-LETTER_K}
 
 sheet : (i : In-loop-n) → SheetHeld i.args.lines.now
 sheet i = i.requires
@@ -40,7 +39,10 @@ pub loop-n-preserved : goal.loop-n-preserved
 loop-n-preserved c =
     let w = c.loop-n.invariant in
     let more = c.loop-n-test.true in
-    ⊎_elim (λ u. rw u.3 (widening_kind (sheet (goal.at.loop-n-preserved c).In-loop-n) w more u.0.taken)) (λ u. rw u.1 (widening_other (sheet (goal.at.loop-n-preserved c).In-loop-n) w more u.0.left)) c.if-lines-n-eq-LETTER_K.branch
+    elim c.if-lines-n-eq-LETTER_K.branch [
+      then-lines-n-eq-LETTER_K u ↦ rw u.widths-is (widening_kind c.requires w more u.if-lines-n-eq-LETTER_K.true)
+      | else-lines-n-eq-LETTER_K u ↦ rw u.widths-is (widening_other c.requires w more u.if-lines-n-eq-LETTER_K.false)
+    ]
 
 pub returns : goal.returns
 returns c = widening_done c.requires c.loop-n.invariant c.loop-n-test.false

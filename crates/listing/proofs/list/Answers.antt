@@ -1,7 +1,6 @@
 -- `listing::list` meets its contract: the rules of what was read are carried out, or the refusal is put. Assumes nothing.
 use mathlib.Core.Path.{◌≡◌, sym, subst, ap₂, ◌∙◌}
-use mathlib.Core.List.{List}
-use Prim.Native.Nat.{ℕ, ◌*◌, ◌≤◌}
+use Prim.Native.Nat.{◌*◌, ◌≤◌}
 use native.Mathlib.Omega.{arith}
 use borrow.Author.Rules.{rules}
 use lib.Seq.{length-take-le}
@@ -17,20 +16,14 @@ use Rattle.report.proofs.Bounds.{read_refusal_small}
 use Rattle.report.proofs.Reports.{filled_by, refusal-filled, read_sheet, read_refused}
 use Rattle.listing.proofs.ListLaws.{read_prints}
 use Rattle.listing.proofs.list.Goals as goal
-use Rattle.listing.proofs.list.Goals.{After-read, In-Lines, In-Refused}
-
-abbrev lent : After-read → List ℕ
-lent r = r.room_for_lines-lines.result
+use Rattle.listing.proofs.list.Goals.{In-Lines, In-Refused}
 
 -- what `read` answers, by cases
-abbrev Meets : After-read → ReadAnswer → Type 0
-Meets r a = ReadMeets r.args.text.now (lent r) a r.read.new.lines
+lines : (c : In-Lines) → ReadMeets c.args.text.now c.room_for_lines-lines.result (Lines c.in-Lines.count) c.read.new.lines
+lines c = subst (λ (a : ReadAnswer). ReadMeets c.args.text.now c.room_for_lines-lines.result a c.read.new.lines) c.in-Lines.is c.read.ensures
 
-lines : (c : In-Lines) → Meets c (Lines c.in-Lines.count)
-lines c = subst (Meets c) c.in-Lines.is c.read.ensures
-
-refused : (c : In-Refused) → Meets c (Refused c.in-Refused.refusal)
-refused c = subst (Meets c) c.in-Refused.is c.read.ensures
+refused : (c : In-Refused) → ReadMeets c.args.text.now c.room_for_lines-lines.result (Refused c.in-Refused.refusal) c.read.new.lines
+refused c = subst (λ (a : ReadAnswer). ReadMeets c.args.text.now c.room_for_lines-lines.result a c.read.new.lines) c.in-Refused.is c.read.ensures
 
 -- what was read fits the room
 fits : (c : In-Lines) → 8 * c.in-Lines.count ≤ 13104
@@ -38,26 +31,26 @@ fits c = let h = read_counts _ _ _ _ (lines c) in omega (arith, h, c.room_for_li
 
 -- the refusal
 unread : (c : In-Refused) → read_of c.args.text.now 1638 ≡ refused_with (refusal_number c.in-Refused.refusal) (refusal_line c.in-Refused.refusal)
-unread c = read_refused _ (lent c) _ c.room_for_lines-lines.ensures c.in-Refused.refusal (refused c)
+unread c = read_refused _ c.room_for_lines-lines.result _ c.room_for_lines-lines.ensures c.in-Refused.refusal (refused c)
 
 pub overflow_mul-used : goal.overflow_mul-used
 overflow_mul-used c = let h = fits (goal.at.overflow_mul-used c).In-Lines in search rules
 
 pub slice_bounds-lines-end : goal.slice_bounds-lines-end
-slice_bounds-lines-end c = let h = fits (goal.at.slice_bounds-lines-end c).In-Lines in omega (arith, h, c.read.auto.1.0, c.room_for_lines-lines.ensures)
+slice_bounds-lines-end c = let h = fits (goal.at.slice_bounds-lines-end c).In-Lines in omega (arith, h, c.read.auto.lines, c.room_for_lines-lines.ensures)
 
 pub slice_bounds-list_lines-end : goal.slice_bounds-list_lines-end
 slice_bounds-list_lines-end c =
     let h = fits (goal.at.slice_bounds-list_lines-end c).In-Lines in
-    sym (length-take-le _ _ (omega (arith, h, c.read.auto.1.0, c.room_for_lines-lines.ensures)))
+    sym (length-take-le _ _ (omega (arith, h, c.read.auto.lines, c.room_for_lines-lines.ensures)))
 
 pub list_lines-requires : goal.list_lines-requires
 list_lines-requires c =
-    (read_sheet c.args.text.now (lent (goal.at.list_lines-requires c).After-read) _ c.room_for_lines-lines.ensures c.in-Lines.count (lines (goal.at.list_lines-requires c).In-Lines), omega (arith, c.requires))
+    (read_sheet c.args.text.now c.room_for_lines-lines.result _ c.room_for_lines-lines.ensures c.in-Lines.count (lines (goal.at.list_lines-requires c).In-Lines), omega (arith, c.requires))
 
 pub returns-in-Lines : goal.returns-in-Lines
 returns-in-Lines c =
-    filled_by _ _ _ (read_prints c.args.text.now (lent (goal.at.returns-in-Lines c).After-read) _ c.room_for_lines-lines.ensures c.in-Lines.count (lines (goal.at.returns-in-Lines c).In-Lines)) c.list_lines.ensures
+    filled_by _ _ _ (read_prints c.args.text.now c.room_for_lines-lines.result _ c.room_for_lines-lines.ensures c.in-Lines.count (lines (goal.at.returns-in-Lines c).In-Lines)) c.list_lines.ensures
 
 pub returns-in-Refused : goal.returns-in-Refused
 returns-in-Refused c =

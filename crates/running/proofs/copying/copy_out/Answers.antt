@@ -10,29 +10,24 @@ use Rattle.running.proofs.copying.copy_out.Lts as lts
 use Rattle.running.proofs.copying.copy_record.Reads as copy-record-reads
 use Rattle.running.proofs.copying.copy_out.Goals as goal
 
--- src/copying.rt:33:5
 pub loop-i-init : goal.loop-i-init
 loop-i-init c = (omega arith, refl)
 
--- src/copying.rt:34:9
 pub copy_record-requires : goal.copy_record-requires
 copy_record-requires c =
     let l = c.loop-i in
     (omega (arith, c.requires.0.few), omega (arith, c.requires.0.few, c.requires.0.room), c.requires.0.each l.i c.loop-i-test.true, omega (arith, c.requires.1, copied_size c.args.rows.now c.args.records.now l.i (omega (arith, c.requires.1)) l.invariant.1))
 
--- src/copying.rt:33:5
 pub loop-i-preserved : goal.loop-i-preserved
 loop-i-preserved c =
     let l = c.loop-i in
     (omega arith, copied_next c.args.rows.now c.args.records.now l.i (omega (arith, c.requires.1)) l.invariant.1 c.copy_record.ensures)
 
--- src/copying.rt:28:1
 pub shape_of-records : goal.shape_of-records
 shape_of-records c =
     let l = c.loop-i in
     copied_size c.args.rows.now c.args.records.now l.i (omega (arith, c.requires.1, l.invariant.0)) l.invariant.1
 
--- src/copying.rt:28:1
 pub returns : goal.returns
 returns c =
     let l = c.loop-i in

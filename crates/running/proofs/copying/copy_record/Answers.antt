@@ -12,35 +12,29 @@ use Rattle.running.proofs.copying.copy_record.Reads as reads
 use Rattle.running.proofs.copying.copy_record.Lts as lts
 use Rattle.running.proofs.copying.copy_record.Goals as goal
 
--- src/copying.rt:19:5
 pub bounds-records-i-2 : goal.bounds-records-i-2
 bounds-records-i-2 c = omega (arith, c.requires.3, length-set c.args.records.now (8 * c.args.i) 82)
 
--- src/copying.rt:21:5
 pub loop-k-init : goal.loop-k-init
 loop-k-init c =
     (omega arith, omega arith, part_self (line_begun c.args.rows.now c.args.records.now c.args.i c.requires.2 c.requires.3))
 
--- src/copying.rt:22:9
 pub bounds-records-i-in-loop-k : goal.bounds-records-i-in-loop-k
 bounds-records-i-in-loop-k c =
     let t = line_begun c.args.rows.now c.args.records.now c.args.i c.requires.2 c.requires.3 in
     omega (arith, c.requires.3, t.whole, c.loop-k.invariant.2.whole)
 
--- src/copying.rt:21:5
 pub loop-k-preserved : goal.loop-k-preserved
 loop-k-preserved c =
     let l = c.loop-k in
     let t = line_begun c.args.rows.now c.args.records.now c.args.i c.requires.2 c.requires.3 in
     (omega arith, omega arith, part_next l.k l.invariant.2 (omega (arith, c.requires.3, t.whole)) (line_number c.args.rows.now c.args.i c.requires.2 l.k l.invariant.0 (omega arith)))
 
--- src/copying.rt:14:1
 pub shape_of-records : goal.shape_of-records
 shape_of-records c =
     let t = line_begun c.args.rows.now c.args.records.now c.args.i c.requires.2 c.requires.3 in
     c.loop-k.invariant.2.whole ∙ t.whole
 
--- src/copying.rt:14:1
 pub returns : goal.returns
 returns c =
     let l = c.loop-k in

@@ -1,3 +1,4 @@
+-- `note` meets its contract. Assumes nothing.
 use mathlib.Core.Path.{ap, ◌∙◌}
 use native.Mathlib.Omega.{arith}
 use lib.ListN.{length, length-set}
@@ -6,10 +7,8 @@ use Rattle.running.proofs.pairs.note.Lts as lts
 use Rattle.running.proofs.records.push.Reads as push-reads
 use Rattle.running.proofs.pairs.note.Goals as goal
 
--- src/pairs.rt:130:5
 pub bounds-index-count-2 : goal.bounds-index-count-2
 bounds-index-count-2 c = rw length-set (omega arith)
 
--- src/pairs.rt:125:1
 pub shape_of-index : goal.shape_of-index
 shape_of-index c = ap length c.push.ensures ∙ simp length-set

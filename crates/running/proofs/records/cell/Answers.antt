@@ -1,3 +1,4 @@
+-- `cell` meets its contract. Assumes nothing.
 use mathlib.Core.Path.{sym, ◌∙◌}
 use Rattle.running.proofs.RecordLaws.{row_at_cell}
 use Rattle.running.proofs.records.cell.Reads as reads
@@ -5,7 +6,6 @@ use Rattle.running.proofs.records.cell.Lts as lts
 use Rattle.running.proofs.wide.of_u32.Reads as of-u32-reads
 use Rattle.running.proofs.records.cell.Goals as goal
 
--- src/firing.rt:21:1
 pub returns : goal.returns
 returns c =
     (c.of_u32.ensures.0 ∙ sym (row_at_cell c.args.rows.now c.args.i c.args.k c.requires.1), c.of_u32.ensures.1)

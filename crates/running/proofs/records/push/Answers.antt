@@ -1,9 +1,9 @@
+-- `push` meets its contract. Assumes nothing.
 use native.Mathlib.Omega.{arith}
 use lib.ListN.{length-set}
 use Rattle.running.proofs.records.push.Reads as reads
 use Rattle.running.proofs.records.push.Lts as lts
 use Rattle.running.proofs.records.push.Goals as goal
 
--- src/records.rt:18:5
 pub bounds-index-c-3 : goal.bounds-index-c-3
 bounds-index-c-3 c = rw length-set (omega arith)

@@ -1,3 +1,4 @@
+-- `put` meets its contract. The invariant: so many numbers of the row are put. Assumes nothing.
 use mathlib.Core.Path.{◌≡◌, refl, subst}
 use Prim.Native.Nat.{ℕ, ◌*◌}
 use native.Mathlib.Omega.{arith}
@@ -9,15 +10,12 @@ use Rattle.running.proofs.records.put.Reads as reads
 use Rattle.running.proofs.records.put.Lts as lts
 use Rattle.running.proofs.records.put.Goals as goal
 
--- src/records.rt:27:5
 pub loop-k-init : goal.loop-k-init
 loop-k-init c = (omega arith, part_none _ _ _)
 
--- src/records.rt:27:5
 pub loop-k-preserved : goal.loop-k-preserved
 loop-k-preserved c = (search rules, part_more c.loop-k.invariant.1 (omega arith) refl)
 
--- src/records.rt:22:1
 pub returns : goal.returns
 returns c =
     let e : c.loop-k.k ≡ 7 = omega arith in

@@ -1,3 +1,4 @@
+-- `put` meets its contract. The invariant: so many numbers of the row are put. Assumes nothing.
 use Prim.Native.Nat.{ℕ, ◌-◌, ◌*◌, ◌≤◌}
 use lib.ListN.{get_or}
 use Rattle.rules.specs.Inner.Bytes.{Part}

@@ -1,3 +1,4 @@
+-- `fire_once` meets its contract: the pair is there, has no room, or is noted and the rule fires. Assumes nothing.
 use mathlib.Core.Path.{sym, subst, ◌∙◌}
 use native.Mathlib.Omega.{arith}
 use borrow.Author.Rules.{rules}
@@ -12,12 +13,10 @@ use Rattle.running.proofs.pairs.note.Reads as note-reads
 use Rattle.running.proofs.wide.of_u8.Reads as of-u8-reads
 use Rattle.running.proofs.visits.fire_once.Goals as goal
 
--- src/visits.rt:47:9
 pub bucket-b-requires : goal.bucket-b-requires
 bucket-b-requires c =
     (record_in c.requires.0 (c.requires.1.ready c.args.r c.requires.2).fits c.args.r c.args.i c.requires.2 c.requires.3 c.requires.4, (c.requires.1.ready c.args.r c.requires.2).fits, c.requires.2, c.requires.0.stored.mixing)
 
--- src/visits.rt:48:8
 pub find-requires : goal.find-requires
 find-requires c =
      (
@@ -29,39 +28,32 @@ find-requires c =
       record { by = c.args.c.by; noted = noted_room c.requires.0 (c.requires.1.ready c.args.r c.requires.2).fits c.args.r c.args.i c.requires.2 c.requires.3 c.requires.4; is = c.bucket-b.ensures.0 },
     )
 
--- src/visits.rt:49:9
 pub returns-then-find-pairs : goal.returns-then-find-pairs
 returns-then-find-pairs c =
     let f = c.find in
     left_there c.requires.0 c.args.r c.args.i (pair_there c.requires.0 (c.requires.1.ready c.args.r c.requires.2).fits c.args.r c.args.i c.requires.2 c.requires.3 c.requires.4 f.result c.if-find-pairs.true (f.ensures.there c.if-find-pairs.true))
 
--- src/visits.rt:52:9
 pub returns-then-pairs-eq4096 : goal.returns-then-pairs-eq4096
 returns-then-pairs-eq4096 c =
     let f = c.find in
     left_full c.requires.0 c.args.r c.args.i (pair_nowhere c.requires.0 (c.requires.1.ready c.args.r c.requires.2).fits c.args.r c.args.i c.requires.2 c.requires.3 c.requires.4 (f.ensures.nowhere (omega (arith, f.ensures.within, c.if-find-pairs.false)))) c.if-pairs-eq4096.true
 
--- src/visits.rt:58:5
 pub note-requires : goal.note-requires
 note-requires c =
     (c.requires.0.noted.size, omega (arith, c.requires.0.noted.chain.small, c.if-pairs-eq4096.false), omega (arith, c.requires.2, (c.requires.1.ready c.args.r c.requires.2).fits.few), omega (arith, c.requires.3, c.requires.0.stored.few), c.bucket-b.ensures.1)
 
--- src/visits.rt:59:20
 pub bounds-fresh-r : goal.bounds-fresh-r
 bounds-fresh-r c =
     omega (arith, c.requires.1.size, c.requires.2, (c.requires.1.ready c.args.r c.requires.2).fits.few)
 
--- src/visits.rt:60:26
 pub overflow_add-r : goal.overflow_add-r
 overflow_add-r c =
     omega (arith, c.requires.2, (c.requires.1.ready c.args.r c.requires.2).fits.few)
 
--- src/visits.rt:60:20
 pub bounds-fresh-r-2 : goal.bounds-fresh-r-2
 bounds-fresh-r-2 c =
     omega (arith, c.requires.1.size, c.requires.2, (c.requires.1.ready c.args.r c.requires.2).fits.few)
 
--- src/visits.rt:61:9
 pub fire-n-requires : goal.fire-n-requires
 fire-n-requires c =
     let h = c.bucket-b in (
@@ -72,17 +64,14 @@ fire-n-requires c =
       c.requires.4,
     )
 
--- src/visits.rt:64:16
 pub overflow_add-result : goal.overflow_add-result
 overflow_add-result c =
     omega (arith, c.requires.0.noted.chain.small)
 
--- src/visits.rt:65:15
 pub overflow_add-result-2 : goal.overflow_add-result-2
 overflow_add-result-2 c =
     omega (arith, c.requires.0.low, c.requires.0.noted.chain.small, c.of_u8-new.ensures.0, c.requires.1.few c.args.r c.requires.2)
 
--- src/visits.rt:29:1
 pub returns : goal.returns
 returns c =
     let f = c.find in

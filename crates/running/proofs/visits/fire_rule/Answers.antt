@@ -1,3 +1,4 @@
+-- `fire_rule` meets its contract: with its pairs kept, or else without. Assumes nothing.
 use mathlib.Core.Path.{sym, subst, ◌∙◌}
 use native.Mathlib.Omega.{arith}
 use borrow.Author.Rules.{rules}
@@ -11,27 +12,22 @@ use Rattle.running.proofs.wide.of_u8.Reads as of-u8-reads
 use Rattle.running.proofs.visits.fire_once.Reads as fire-once-reads
 use Rattle.running.proofs.visits.fire_rule.Goals as goal
 
--- src/visits.rt:85:26
 pub overflow_add-r : goal.overflow_add-r
 overflow_add-r c =
     omega (arith, c.requires.2, (c.requires.1.ready c.args.r c.requires.2).fits.few)
 
--- src/visits.rt:85:20
 pub bounds-fresh-r : goal.bounds-fresh-r
 bounds-fresh-r c =
     omega (arith, c.requires.1.size, c.requires.2, (c.requires.1.ready c.args.r c.requires.2).fits.few)
 
--- src/visits.rt:87:9
 pub returns-then-keep-ne0 : goal.returns-then-keep-ne0
 returns-then-keep-ne0 c =
     left_once c.requires.0 (keep_in c.args.fresh.now c.args.r) c.args.r c.args.i (λ q. c.if-keep-ne0.true (c.of_u8-keep.ensures.0 ∙ q)) c.fire_once.ensures
 
--- src/visits.rt:92:20
 pub bounds-fresh-r-2 : goal.bounds-fresh-r-2
 bounds-fresh-r-2 c =
     omega (arith, c.requires.1.size, c.requires.2, (c.requires.1.ready c.args.r c.requires.2).fits.few)
 
--- src/visits.rt:93:9
 pub fire-n-requires : goal.fire-n-requires
 fire-n-requires c =
      (
@@ -42,7 +38,6 @@ fire-n-requires c =
       c.requires.4,
     )
 
--- src/visits.rt:70:1
 pub returns : goal.returns
 returns c =
     left_made c.requires.0 (keep_in c.args.fresh.now c.args.r) c.args.r c.args.i (sym c.of_u8-keep.ensures.0 ∙ c.if-keep-ne0.false) c.fire-n.ensures

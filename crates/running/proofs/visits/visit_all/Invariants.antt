@@ -1,3 +1,4 @@
+-- `visit_all` meets its contract. The invariant: where the visits stand, and the others lead to the last state. Assumes nothing.
 use Prim.Native.Nat.{◌-◌, ◌≤◌}
 use borrow.Author.Rules.{rules}
 use Rattle.running.specs.Inner.Visits.{state_at}

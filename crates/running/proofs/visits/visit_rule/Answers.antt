@@ -1,3 +1,4 @@
+-- `visit_rule` meets its contract. Assumes nothing.
 use mathlib.Core.Path.{subst}
 use Rattle.rules.specs.Inner.Tests.{Decides}
 use Rattle.carrying.specs.Carrying.{FiresOn}
@@ -11,22 +12,18 @@ use Rattle.running.proofs.firing.fires.Reads as fires-reads
 use Rattle.running.proofs.visits.fire_rule.Reads as fire-rule-reads
 use Rattle.running.proofs.visits.visit_rule.Goals as goal
 
--- src/visits.rt:116:8
 pub fires-requires : goal.fires-requires
 fires-requires c =
     (stored_record c.requires.0.stored c.args.i c.requires.3, (c.requires.1.ready c.args.r c.requires.2).fits, c.requires.2)
 
--- src/visits.rt:117:9
 pub fire_rule-requires : goal.fire_rule-requires
 fire_rule-requires c =
     (c.requires.0, c.requires.1, c.requires.2, c.requires.3, subst (Decides (FiresOn (rule_at c.args.table.now c.args.r) (row_no c.args.rows.now c.args.i))) c.if-fires.true c.fires.ensures)
 
--- src/visits.rt:117:9
 pub returns-then-fires : goal.returns-then-fires
 returns-then-fires c =
     left_fires c.requires.0 (keep_in c.args.fresh.now c.args.r) c.args.r c.args.i (subst (Decides (FiresOn (rule_at c.args.table.now c.args.r) (row_no c.args.rows.now c.args.i))) c.if-fires.true c.fires.ensures) c.fire_rule.ensures
 
--- src/visits.rt:102:1
 pub returns : goal.returns
 returns c =
     left_idle c.requires.0 (keep_in c.args.fresh.now c.args.r) c.args.r c.args.i (subst (Decides (FiresOn (rule_at c.args.table.now c.args.r) (row_no c.args.rows.now c.args.i))) c.if-fires.false c.fires.ensures)
