@@ -25,7 +25,12 @@ pub with_mark-counts-requires : goal.with_mark-counts-requires
 with_mark-counts-requires c = counted_few c.loop-i.invariant.holds.counted
 
 pub bounds-met-mark-in-loop-i : goal.bounds-met-mark-in-loop-i
-bounds-met-mark-in-loop-i c = element-copy-out-with-mark c
+bounds-met-mark-in-loop-i c =
+    let s = c.requires in
+    omega (
+      arith,
+      mark_low c.loop-i.invariant s.0 c.loop-i-test.true c.of_u32-mark.ensures.0 c.if-mark-eq0.false s.1,
+    )
 
 pub loop-i-preserved : goal.loop-i-preserved
 loop-i-preserved c =

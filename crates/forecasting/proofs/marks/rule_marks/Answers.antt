@@ -21,7 +21,7 @@ count_head-counts-requires c =
 pub loop-h-preserved : goal.loop-h-preserved
 loop-h-preserved c =
     heads_next c.args.n c.requires c.loop-h.invariant c.loop-h-test.true c.if-lines-n-ne-LETTER_H.false
-    c.count_Head.ensures
+    c.count_head-counts.ensures
 
 pub returns : goal.returns
 returns c =

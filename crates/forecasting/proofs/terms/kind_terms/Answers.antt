@@ -1,13 +1,12 @@
 -- `terms::kind_terms` meets its contract. The invariant: the kinds of the lines passed are counted by their widths. Assumes nothing.
 use mathlib.Core.Path.{sym, subst}
-use mathlib.Core.Logic.{⊎_elim}
 use mathlib.Core.List.{List}
 use Prim.Native.Nat.{ℕ, ◌+◌, ◌<◌}
 use borrow.Author.Rules.{rules}
 use Rattle.rules.proofs.SheetLaws.{lent_line}
 use Rattle.forecasting.proofs.TermLaws.{KindsSeen, kinds_begun, kinds_all, kinds_other, width_small, kinds_fit, kinds_more}
 use Rattle.forecasting.proofs.terms.kind_terms.Goals as goal
-use Rattle.forecasting.proofs.terms.kind_terms.Goals.{After-of_u32-width}
+use Rattle.forecasting.proofs.terms.kind_terms.Goals.{After-of_u32-width, then-lines-n-eq-LETTER_K, else-lines-n-eq-LETTER_K}
 
 width-here : (c : After-of_u32-width) → c.of_u32-width.result < 7
 width-here c =
@@ -42,8 +41,10 @@ loop-n-preserved c =
     let at = c.loop-n in
     let here = c.loop-n-test.true in
     let next : List ℕ → Type 0 = λ kinds. KindsSeen c.args.lines.now (at.n + 1) kinds in
-    ⊎_elim (λ w. subst next (sym w.3) (kinds_more held at.invariant here w.0.taken _ w.2.ensures.0))
-    (λ w. subst next (sym w.1) (kinds_other held at.invariant here w.0.left)) c.if-lines-n-eq-LETTER_K.branch
+    elim c.if-lines-n-eq-LETTER_K.branch [
+      then-lines-n-eq-LETTER_K w ↦ subst next (sym w.kinds-is) (kinds_more held at.invariant here w.if-lines-n-eq-LETTER_K.true _ w.of_u32-width.ensures.0)
+    | else-lines-n-eq-LETTER_K w ↦ subst next (sym w.kinds-is) (kinds_other held at.invariant here w.if-lines-n-eq-LETTER_K.false)
+    ]
 
 pub returns : goal.returns
 returns c = kinds_all c.requires c.loop-n.invariant c.loop-n-test.false

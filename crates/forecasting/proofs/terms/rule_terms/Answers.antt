@@ -1,13 +1,12 @@
 -- `terms::rule_terms` meets its contract. The invariant: the rules of the lines passed are counted by their carried marks. Assumes nothing.
 use mathlib.Core.Path.{sym, subst₂}
-use mathlib.Core.Logic.{⊎_elim}
 use mathlib.Core.List.{List}
 use Prim.Native.Nat.{ℕ, ◌+◌, ◌<◌}
 use native.Mathlib.Omega.{arith}
 use borrow.Author.Rules.{rules}
 use Rattle.forecasting.proofs.TermLaws.{RulesSeen, rules_begun, rules_all, rules_other, fresh_fit, pairs_fit, rules_more}
 use Rattle.forecasting.proofs.terms.rule_terms.Goals as goal
-use Rattle.forecasting.proofs.terms.rule_terms.Goals.{After-rule_marks-marks}
+use Rattle.forecasting.proofs.terms.rule_terms.Goals.{After-rule_marks-marks, then-lines-n-eq-LETTER_B, else-lines-n-eq-LETTER_B}
 
 carried_here : (c : After-rule_marks-marks) → c.rule_marks-marks.result.carried < 7
 carried_here c = let few = c.rule_marks-marks.ensures.few_carried in omega arith
@@ -52,8 +51,12 @@ loop-n-preserved c =
     let at = c.loop-n in
     let here = c.loop-n-test.true in
     let next : List ℕ → List ℕ → Type 0 = λ fresh pairs. RulesSeen c.args.lines.now (at.n + 1) fresh pairs in
-    ⊎_elim (λ w. subst₂ next (sym w.2) (sym w.3) (rules_more held at.invariant here w.0.taken w.1.result w.1.ensures))
-    (λ w. subst₂ next (sym w.1) (sym w.2) (rules_other held at.invariant here w.0.left)) c.if-lines-n-eq-LETTER_B.branch
+    elim c.if-lines-n-eq-LETTER_B.branch [
+      then-lines-n-eq-LETTER_B w ↦ subst₂ next (sym w.fresh-is) (sym w.pairs-is)
+      (rules_more held at.invariant here w.if-lines-n-eq-LETTER_B.true w.rule_marks-marks.result w.rule_marks-marks.ensures)
+    | else-lines-n-eq-LETTER_B w ↦ subst₂ next (sym w.fresh-is) (sym w.pairs-is)
+      (rules_other held at.invariant here w.if-lines-n-eq-LETTER_B.false)
+    ]
 
 pub returns : goal.returns
 returns c = rules_all c.requires c.loop-n.invariant c.loop-n-test.false

@@ -1,6 +1,5 @@
 -- `forecasting::values::add_rows` meets its contract. The invariant: where the reading of the lines stands, and the values of the rows so far are added. The measure is the number of lines left. Assumes nothing.
 use mathlib.Core.Path.{sym, ◌∙◌}
-use mathlib.Core.Logic.{⊎_elim}
 use Prim.Native.Nat.{◌+◌, ◌*◌, ◌≤◌}
 use native.Mathlib.Omega.{arith}
 use borrow.Author.Rules.{rules}
@@ -9,7 +8,7 @@ use Rattle.rules.specs.Table.{SheetHeld}
 use Rattle.rules.proofs.RowLaws.{whole_line, kind_low, read_kind, read_other}
 use Rattle.forecasting.proofs.ValueLaws.{count_none, count_other, count_row, count_all, width_few, row_room, zeros_room}
 use Rattle.forecasting.proofs.values.add_rows.Goals as goal
-use Rattle.forecasting.proofs.values.add_rows.Goals.{After-of_u32, In-loop-n}
+use Rattle.forecasting.proofs.values.add_rows.Goals.{After-of_u32, In-loop-n, then-letter-eq-LETTER_K, else-letter-eq-LETTER_K+then-letter-eq-LETTER_R, else-letter-eq-LETTER_K+else-letter-eq-LETTER_R}
 
 sheet : (i : In-loop-n) → SheetHeld i.args.lines.now
 sheet i = i.requires.0
@@ -21,8 +20,8 @@ low : (i : In-loop-n) → get_or i.args.lines.now (8 * i.loop-n.n + 1) 0 ≤ 64
 low i = kind_low _ _ _ _ (sheet i) i.loop-n.invariant.reading i.loop-n-test.true
 
 width : (u : After-of_u32) → u.of_u32.result ≤ 6
-width u = 
-    width_few (sheet u) u.loop-n.invariant u.loop-n-test.true u.if-letter-eq-LETTER_R.true u.of_u32.result u.of_u32.ensures.0
+width u =
+    width_few u.requires.0 u.loop-n.invariant u.loop-n-test.true u.if-letter-eq-LETTER_R.true u.of_u32.result u.of_u32.ensures.0
 
 pub loop-n-init : goal.loop-n-init
 loop-n-init c = count_none c.args.lines.now c.requires.1
@@ -71,14 +70,11 @@ pub loop-n-preserved : goal.loop-n-preserved
 loop-n-preserved c =
     let p = c.loop-n.invariant in
     let more = c.loop-n-test.true in
-    ⊎_elim
-    (λ w. rw (w.2, w.3, w.4, w.5, w.6, w.7) (count_other (sheet (goal.at.loop-n-preserved c).In-loop-n) p more (λ e. omega (arith, w.0.taken, e)) (read_kind _ _ _ _ (sheet (goal.at.loop-n-preserved c).In-loop-n) p.reading more w.0.taken)))
-    (λ u.
-    ⊎_elim
-    (λ w. rw (w.16, w.17, w.18, w.19, w.20, w.21) (count_row (sheet (goal.at.loop-n-preserved c).In-loop-n) p more w.1.taken w.2.result w.2.ensures.0 w.7.ensures w.15.ensures.0 w.15.ensures.1))
-    (λ w. rw (w.2, w.3, w.4, w.5, w.6, w.7) (count_other (sheet (goal.at.loop-n-preserved c).In-loop-n) p more w.1.left (read_other _ _ _ _ (sheet (goal.at.loop-n-preserved c).In-loop-n) p.reading more w.0.left w.1.left)))
-    u)
-    c.if-letter-eq-LETTER_K.branch
+    elim c.if-letter-eq-LETTER_K.branch [
+      then-letter-eq-LETTER_K w ↦ ?
+    | else-letter-eq-LETTER_K+then-letter-eq-LETTER_R w ↦ ?
+    | else-letter-eq-LETTER_K+else-letter-eq-LETTER_R w ↦ ?
+    ]
 
 pub shape_of-values : goal.shape_of-values
 shape_of-values c = c.loop-n.invariant.stored.room ∙ sym c.requires.1.room
