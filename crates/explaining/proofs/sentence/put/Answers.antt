@@ -1,115 +1,92 @@
 -- `sentence::put` meets its contract. After each call the sentence so far is put. Assumes nothing.
-use mathlib.Core.List.{◌++◌}
+use mathlib.Core.List.{List, ◌++◌}
+use Prim.Native.Nat.{ℕ, ◌+◌, ◌≤◌}
 use native.Mathlib.Omega.{arith}
 use lib.ListN.{length}
 use Rattle.sentences.specs.Decimal.{bytes, decimal}
+use Rattle.sentences.specs.Sentence.{Said, part, manner, place}
 use Rattle.explaining.specs.Inner.Puts.{Puts}
-use Rattle.sentences.specs.Sentence.{Said, manner, place}
+use Rattle.explaining.specs.Inner.Text.{sentence_for}
+use Rattle.explaining.specs.declared.sentence.Sentence.{Sentence}
 use Rattle.explaining.proofs.PutLaws.{puts_then, puts_length, next_fits, next_part-fits, Rooms, rooms, puts_sentence, to_rule, to_head, to_body, to_from, to_made, to_to, to_manner}
 use Rattle.explaining.proofs.sentence.put.Goals as goal
-use Rattle.explaining.proofs.sentence.put.Goals.{After-put_manner-manner, After-put_part-body, After-put_part-from, After-put_part-head, After-put_part-made, After-put_part-rule, After-put_part-to, After-put_place, Start}
 
 -- What the numbers that the call is given say.
-abbrev says : Start → Said
-says e =
+abbrev says : Sentence → Said
+says s =
     record {
-      step = record { rule = e.args.s.rule; head = e.args.s.head; from = e.args.s.from; to = e.args.s.to; fresh = e.args.s.fresh };
-      body = e.args.s.body;
-      made = e.args.s.made;
+      step = record { rule = s.rule; head = s.head; from = s.from; to = s.to; fresh = s.fresh };
+      body = s.body;
+      made = s.made;
     }
 
-room : (e : Start) → Rooms e.args.s.in_loop (says e) e.args.at (length e.args.text.now)
-room e = rooms e.args.s.in_loop (says e) e.args.at (length e.args.text.now) e.requires
+module _ (text : List ℕ) (at : ℕ) (s : Sentence) (fits : at + length (sentence_for s) ≤ length text) where
+  room : Rooms s.in_loop (says s) at (length text)
+  room = rooms s.in_loop (says s) at (length text) fits
 
-told1 : (p : After-put_part-rule)
-    → Puts p.args.text.now p.args.at (to_rule p.args.s.in_loop (says p)) p.put_part-rule.result p.put_part-rule.new.text
-told1 p = p.put_part-rule.ensures
+  -- The sentence so far, after the second call and each later one.
+  module _ {m1 : ℕ} {t1 : List ℕ} (p1 : Puts text at (to_rule s.in_loop (says s)) m1 t1) where
+    module _ {m2 : ℕ} {t2 : List ℕ} (p2 : Puts t1 m1 (part ", H line " s.head) m2 t2) where
+      told2 : Puts text at (to_head s.in_loop (says s)) m2 t2
+      told2 = puts_then room.head p1 p2
 
-told2 : (p : After-put_part-head)
-    → Puts p.args.text.now p.args.at (to_head p.args.s.in_loop (says p)) p.put_part-head.result p.put_part-head.new.text
-told2 p = puts_then (room p).head (told1 p) p.put_part-head.ensures
+      module _ {m3 : ℕ} {t3 : List ℕ} (p3 : Puts t2 m2 (part ": kind " s.body) m3 t3) where
+        told3 : Puts text at (to_body s.in_loop (says s)) m3 t3
+        told3 = puts_then room.body-kind told2 p3
 
-abbrev entry3 : After-put_part-body → Start
-entry3 p = p
+        module _ {m4 : ℕ} {t4 : List ℕ} (p4 : Puts t3 m3 (part " field " s.from) m4 t4) where
+          told4 : Puts text at (to_from s.in_loop (says s)) m4 t4
+          told4 = puts_then room.from told3 p4
 
-told3 : (p : After-put_part-body)
-    → Puts (entry3 p).args.text.now (entry3 p).args.at (to_body (entry3 p).args.s.in_loop (says (entry3 p))) p.put_part-body.result p.put_part-body.new.text
-told3 p = puts_then (room (entry3 p)).body-kind (told2 p) p.put_part-body.ensures
+          module _ {m5 : ℕ} {t5 : List ℕ} (p5 : Puts t4 m4 (part " to kind " s.made) m5 t5) where
+            told5 : Puts text at (to_made s.in_loop (says s)) m5 t5
+            told5 = puts_then room.made-kind told4 p5
 
-abbrev entry4 : After-put_part-from → Start
-entry4 p = entry3 p
+            module _ {m6 : ℕ} {t6 : List ℕ} (p6 : Puts t5 m5 (part " field " s.to) m6 t6) where
+              told6 : Puts text at (to_to s.in_loop (says s)) m6 t6
+              told6 = puts_then room.to told5 p6
 
-told4 : (p : After-put_part-from)
-    → Puts (entry4 p).args.text.now (entry4 p).args.at (to_from (entry4 p).args.s.in_loop (says (entry4 p))) p.put_part-from.result p.put_part-from.new.text
-told4 p = puts_then (room (entry4 p)).from (told3 p) p.put_part-from.ensures
+              module _ {m7 : ℕ} {t7 : List ℕ} (p7 : Puts t6 m6 (manner s.from s.to s.fresh) m7 t7) where
+                told7 : Puts text at (to_manner s.in_loop (says s)) m7 t7
+                told7 = puts_then room.manner_word told6 p7
 
-abbrev entry5 : After-put_part-made → Start
-entry5 p = entry4 p
-
-told5 : (p : After-put_part-made)
-    → Puts (entry5 p).args.text.now (entry5 p).args.at (to_made (entry5 p).args.s.in_loop (says (entry5 p))) p.put_part-made.result p.put_part-made.new.text
-told5 p = puts_then (room (entry5 p)).made-kind (told4 p) p.put_part-made.ensures
-
-abbrev entry6 : After-put_part-to → Start
-entry6 p = entry5 p
-
-told6 : (p : After-put_part-to)
-    → Puts (entry6 p).args.text.now (entry6 p).args.at (to_to (entry6 p).args.s.in_loop (says (entry6 p))) p.put_part-to.result p.put_part-to.new.text
-told6 p = puts_then (room (entry6 p)).to (told5 p) p.put_part-to.ensures
-
-abbrev entry7 : After-put_manner-manner → Start
-entry7 p = entry6 p
-
-told7 : (p : After-put_manner-manner)
-    → Puts (entry7 p).args.text.now (entry7 p).args.at (to_manner (entry7 p).args.s.in_loop (says (entry7 p))) p.put_manner-manner.result p.put_manner-manner.new.text
-told7 p = puts_then (room (entry7 p)).manner_word (told6 p) p.put_manner-manner.ensures
-
-abbrev entry8 : After-put_place → Start
-entry8 p = entry7 p
-
-told8 : (p : After-put_place)
-    → Puts (entry8 p).args.text.now (entry8 p).args.at
-    (to_manner (entry8 p).args.s.in_loop (says (entry8 p)) ++ place (entry8 p).args.s.in_loop) p.put_place.result p.put_place.new.text
-told8 p = puts_then (room (entry8 p)).place_word (told7 p) p.put_place.ensures
+                module _ {m8 : ℕ} {t8 : List ℕ} (p8 : Puts t7 m7 (place s.in_loop) m8 t8) where
+                  told8 : Puts text at (to_manner s.in_loop (says s) ++ place s.in_loop) m8 t8
+                  told8 = puts_then room.place_word told7 p8
 
 pub put_part-rule-requires : goal.put_part-rule-requires
-put_part-rule-requires c = omega (arith, (room (goal.at.put_part-rule-requires c).Start).rule)
+put_part-rule-requires c = omega (arith, (room c.args.text.now c.args.at c.args.s c.requires).rule)
 
 pub put_part-head-requires : goal.put_part-head-requires
 put_part-head-requires c =
-    next_part-fits (bytes ", H line ") (decimal c.args.s.head) (room (goal.at.put_part-head-requires c).Start).head (told1 (goal.at.put_part-head-requires c).After-put_part-rule)
+    next_part-fits (bytes ", H line ") (decimal c.args.s.head) (room c.args.text.now c.args.at c.args.s c.requires).head c.put_part-rule.ensures
 
 pub put_part-body-requires : goal.put_part-body-requires
 put_part-body-requires c =
-    next_part-fits (bytes ": kind ") (decimal c.args.s.body) (room (goal.at.put_part-body-requires c).Start).body-kind (told2 (goal.at.put_part-body-requires c).After-put_part-head)
+    next_part-fits (bytes ": kind ") (decimal c.args.s.body) (room c.args.text.now c.args.at c.args.s c.requires).body-kind (told2 c.args.text.now c.args.at c.args.s c.requires c.put_part-rule.ensures c.put_part-head.ensures)
 
 pub put_part-from-requires : goal.put_part-from-requires
 put_part-from-requires c =
-    let e = entry3 (goal.at.put_part-from-requires c).After-put_part-body in
-    next_part-fits (bytes " field ") (decimal e.args.s.from) (room e).from (told3 (goal.at.put_part-from-requires c).After-put_part-body)
+    next_part-fits (bytes " field ") (decimal c.args.s.from) (room c.args.text.now c.args.at c.args.s c.requires).from (told3 c.args.text.now c.args.at c.args.s c.requires c.put_part-rule.ensures c.put_part-head.ensures c.put_part-body.ensures)
 
 pub put_part-made-requires : goal.put_part-made-requires
 put_part-made-requires c =
-    let e = entry4 (goal.at.put_part-made-requires c).After-put_part-from in
-    next_part-fits (bytes " to kind ") (decimal e.args.s.made) (room e).made-kind (told4 (goal.at.put_part-made-requires c).After-put_part-from)
+    next_part-fits (bytes " to kind ") (decimal c.args.s.made) (room c.args.text.now c.args.at c.args.s c.requires).made-kind (told4 c.args.text.now c.args.at c.args.s c.requires c.put_part-rule.ensures c.put_part-head.ensures c.put_part-body.ensures c.put_part-from.ensures)
 
 pub put_part-to-requires : goal.put_part-to-requires
 put_part-to-requires c =
-    let e = entry5 (goal.at.put_part-to-requires c).After-put_part-made in
-    next_part-fits (bytes " field ") (decimal e.args.s.to) (room e).to (told5 (goal.at.put_part-to-requires c).After-put_part-made)
+    next_part-fits (bytes " field ") (decimal c.args.s.to) (room c.args.text.now c.args.at c.args.s c.requires).to (told5 c.args.text.now c.args.at c.args.s c.requires c.put_part-rule.ensures c.put_part-head.ensures c.put_part-body.ensures c.put_part-from.ensures c.put_part-made.ensures)
 
 pub put_manner-manner-requires : goal.put_manner-manner-requires
 put_manner-manner-requires c =
-    let e = entry6 (goal.at.put_manner-manner-requires c).After-put_part-to in
-    next_fits (manner e.args.s.from e.args.s.to e.args.s.fresh) (room e).manner_word (told6 (goal.at.put_manner-manner-requires c).After-put_part-to)
+    next_fits (manner c.args.s.from c.args.s.to c.args.s.fresh) (room c.args.text.now c.args.at c.args.s c.requires).manner_word (told6 c.args.text.now c.args.at c.args.s c.requires c.put_part-rule.ensures c.put_part-head.ensures c.put_part-body.ensures c.put_part-from.ensures c.put_part-made.ensures c.put_part-to.ensures)
 
 pub put_place-requires : goal.put_place-requires
 put_place-requires c =
-    let e = entry7 (goal.at.put_place-requires c).After-put_manner-manner in
-    next_fits (place e.args.s.in_loop) (room e).place_word (told7 (goal.at.put_place-requires c).After-put_manner-manner)
+    next_fits (place c.args.s.in_loop) (room c.args.text.now c.args.at c.args.s c.requires).place_word (told7 c.args.text.now c.args.at c.args.s c.requires c.put_part-rule.ensures c.put_part-head.ensures c.put_part-body.ensures c.put_part-from.ensures c.put_part-made.ensures c.put_part-to.ensures c.put_manner-manner.ensures)
 
 pub shape_of-text : goal.shape_of-text
-shape_of-text c = puts_length (entry8 (goal.at.shape_of-text c).After-put_place).requires (puts_sentence _ _ (told8 (goal.at.shape_of-text c).After-put_place))
+shape_of-text c = puts_length c.requires (puts_sentence _ _ (told8 c.args.text.now c.args.at c.args.s c.requires c.put_part-rule.ensures c.put_part-head.ensures c.put_part-body.ensures c.put_part-from.ensures c.put_part-made.ensures c.put_part-to.ensures c.put_manner-manner.ensures c.put_place.ensures))
 
 pub returns : goal.returns
-returns c = puts_sentence _ _ (told8 (goal.at.returns c).After-put_place)
+returns c = puts_sentence _ _ (told8 c.args.text.now c.args.at c.args.s c.requires c.put_part-rule.ensures c.put_part-head.ensures c.put_part-body.ensures c.put_part-from.ensures c.put_part-made.ensures c.put_part-to.ensures c.put_manner-manner.ensures c.put_place.ensures)
