@@ -2,7 +2,7 @@
 #   make                      proves the library, writes its archive, builds target/judge_file and target/carry_file
 #   make install              puts header, archive, pkg-config file and the tools under PREFIX (below DESTDIR where that is set)
 #   make uninstall            takes them away again
-# Proving from nothing takes some five minutes; what was proved is not proved again.
+# Proving from nothing takes some twenty minutes; what was proved is not proved again.
 PREFIX ?= /usr/local
 CC = gcc
 CFLAGS = -std=c11 -O2 -Wall -Wextra
@@ -22,7 +22,7 @@ all: $(archive) $(judge_file) $(carry_file)
 # The archive is as new as its proof: rt decides what has to be done.
 .PHONY: all install uninstall prove
 prove:
-	rt staticlib followup
+	tools/build.sh followup
 
 $(archive): prove
 

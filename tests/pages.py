@@ -89,7 +89,7 @@ def text_of(path):
 def cited(path):
     """The files of definitions of this repository that a file cites; types declared in the code stand there."""
     found = set()
-    for name, module in re.findall(r"Rattle·(\w+)(?:·specs)?\.specs\.([A-Za-z.]+)\.\{", text_of("crates/" + path)):
+    for name, module in re.findall(r"Rattle\.(\w+)\.specs\.([A-Za-z.]+)\.\{", text_of("crates/" + path)):
         if not module.startswith("declared.") and os.path.isdir(os.path.join(ROOT, "crates", name)):
             found.add("%s/specs/%s.antt" % (name, module.replace(".", "/")))
     return found - {path}
