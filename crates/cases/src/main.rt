@@ -15,11 +15,10 @@ ghost use Rattle.std.specs.Prelude.{◌+◌, ◌≤◌, ◌<◌, length};
 
 use console::Input;
 use judging::{Figures, JudgeAnswer};
-use libc::STDOUT_FILENO;
 use sheet::{PatternAnswer, ReadAnswer};
 
 // An answer: V with the eight numbers of a verdict, N with the two of a refusal, P with the number of a pattern.
-#[derive(Drop)]
+#[derive(Clone, Copy)]
 struct Said {
     pub letter: u8,
     pub numbers: [usize; 8],
@@ -87,53 +86,53 @@ fn as_given(head: &[u8], said: Said) -> bool {
 }
 
 // Writes a part of a line. What cannot be written is lost; where the last line cannot be written either, `print_tried` says why.
-fn print(text: &[u8]) {
-    io::write_all(STDOUT_FILENO, text);
+fn print(rt: &impl Print, text: &[u8]) {
+    let _ = rt.write_all(text);
 }
 
-fn print_number(before: &[u8], n: usize) {
-    print(before);
-    io::print_decimal(STDOUT_FILENO, n as u64);
+fn print_number(rt: &impl Print, before: &[u8], n: usize) {
+    print(rt, before);
+    let _ = rt.print(n);
 }
 
-fn print_name(head: &[u8]) {
+fn print_name(rt: &impl Print, head: &[u8]) {
     if 60 <= head.len() {
-        print(&head[20..60]);
+        print(rt, &head[20..60]);
     }
 }
 
-fn print_verdict(verdict: usize) {
+fn print_verdict(rt: &impl Print, verdict: usize) {
     if verdict == 1 {
-        print(b" settles");
+        print(rt, b" settles");
         return;
     }
-    print(b" endless");
+    print(rt, b" endless");
 }
 
 // Prints the numbers of a verdict that the chase finds too.
-fn print_figures(n: [usize; 8]) {
-    print_verdict(n[0]);
-    print_number(b", deepest ", n[1]);
-    print_number(b", shapes ", n[2]);
-    print_number(b", fired ", n[3]);
-    print_number(b", share ", n[4]);
+fn print_figures(rt: &impl Print, n: [usize; 8]) {
+    print_verdict(rt, n[0]);
+    print_number(rt, b", deepest ", n[1]);
+    print_number(rt, b", shapes ", n[2]);
+    print_number(rt, b", fired ", n[3]);
+    print_number(rt, b", share ", n[4]);
 }
 
-fn print_said(said: Said) {
+fn print_said(rt: &impl Print, said: Said) {
     let n = said.numbers;
     if said.letter == b'N' {
-        print_number(b" refused with ", n[0]);
-        print_number(b", line ", n[1]);
+        print_number(rt, b" refused with ", n[0]);
+        print_number(rt, b", line ", n[1]);
         return;
     }
     if said.letter == b'P' {
-        print_number(b" number ", n[0]);
+        print_number(rt, b" number ", n[0]);
         return;
     }
-    print_figures(n);
-    print_number(b", row ", n[5]);
-    print_number(b", trail ", n[6]);
-    print_number(b", loop ", n[7]);
+    print_figures(rt, n);
+    print_number(rt, b", row ", n[5]);
+    print_number(rt, b", trail ", n[6]);
+    print_number(rt, b", loop ", n[7]);
 }
 
 fn verdict(number: usize, f: Figures) -> Said {
@@ -165,10 +164,10 @@ fn judge(lines: &[u32], steps: &mut [u16]) -> Said {
 }
 
 // Prints what an answer differs from, if it does.
-fn tell(right: bool, what: &[u8]) -> bool {
+fn tell(rt: &impl Print, right: bool, what: &[u8]) -> bool {
     if !right {
-        print(b", DIFFERS from ");
-        print(what);
+        print(rt, b", DIFFERS from ");
+        print(rt, what);
     }
     right
 }
@@ -189,11 +188,11 @@ fn same_figures(a: [usize; 8], b: [usize; 8]) -> bool {
     (a[0] == b[0]) & (a[1] == b[1]) & (a[2] == b[2]) & (a[3] == b[3]) & (a[4] == b[4])
 }
 
-fn tell_figures(said: [usize; 8], chased: [usize; 8]) -> bool {
+fn tell_figures(rt: &impl Print, said: [usize; 8], chased: [usize; 8]) -> bool {
     let right = same_figures(said, chased);
     if !right {
-        print(b", DIFFERS from the chase:");
-        print_figures(chased);
+        print(rt, b", DIFFERS from the chase:");
+        print_figures(rt, chased);
     }
     right
 }
@@ -221,14 +220,14 @@ fn steps_right(lines: &[u32], values: &mut [[u32; 8]], steps: &[u16], n: [usize;
 }
 
 // Compares an answer with the chase, which has room for more shapes than the judge takes: a verdict with all its numbers, refusal 11 with the count of shapes.
-fn compare(lines: &[u32], steps: &[u16], said: Said) -> bool {
+fn compare(rt: &impl Print, lines: &[u32], steps: &[u16], said: Said) -> bool {
     let mut records = [[0; 8]; 640];
     let mut values = [[0; 8]; 2048];
     let mut shapes = [[0; 8]; 640];
     let mut fired = [[0; 8]; 640];
     let rests = small_chase::chase(lines, &mut records, &mut values, &mut shapes, &mut fired);
     if said.letter == b'N' {
-        return tell(512 < table::size(&shapes), b"the chase");
+        return tell(rt, 512 < table::size(&shapes), b"the chase");
     }
     let chased = found(
         rests,
@@ -238,77 +237,78 @@ fn compare(lines: &[u32], steps: &[u16], said: Said) -> bool {
         small_chase::share(lines, &fired),
     );
     let n = said.numbers;
-    let right = tell_figures(n, chased);
+    let right = tell_figures(rt, n, chased);
     tell(
+        rt,
         steps_right(lines, &mut values, steps, n),
         b"what its steps must be",
     ) & right
 }
 
 // Prints an answer, and whether it is the one that the head of its case gives.
-fn tell_answer(head: &[u8], said: Said) -> bool {
-    print_said(said);
-    tell(as_given(head, said), b"what is given")
+fn tell_answer(rt: &impl Print, head: &[u8], said: Said) -> bool {
+    print_said(rt, said);
+    tell(rt, as_given(head, said), b"what is given")
 }
 
 // Tries the judge on lent lines. A refusal other than 11 needs no chase.
-fn try_lines(head: &[u8], lines: &[u32], steps: &mut [u16]) -> bool {
+fn try_lines(rt: &impl Print, head: &[u8], lines: &[u32], steps: &mut [u16]) -> bool {
     let said = judge(lines, steps);
-    let right = tell_answer(head, said);
+    let right = tell_answer(rt, head, said);
     let n = said.numbers;
     if said.letter == b'N' {
         if n[0] != 11 {
             return right;
         }
     }
-    compare(lines, steps, said) & right
+    compare(rt, lines, steps, said) & right
 }
 
 // Lends as many steps as the case says.
-fn lend_steps(head: &[u8], lines: &[u32]) -> bool {
+fn lend_steps(rt: &impl Print, head: &[u8], lines: &[u32]) -> bool {
     let mut steps = [0; 20480];
     let count = column_number(head, 10);
     if 4096 < count {
-        return tell(false, b"the form of a case");
+        return tell(rt, false, b"the form of a case");
     }
     let lent = 5 * count;
-    try_lines(head, lines, &mut steps[0..lent])
+    try_lines(rt, head, lines, &mut steps[0..lent])
 }
 
 // Tries a sheet's text.
-fn try_text(head: &[u8], text: &[u8]) -> bool {
+fn try_text(rt: &impl Print, head: &[u8], text: &[u8]) -> bool {
     let mut lines = [0; 13104];
     match sheet::read(text, &mut lines) {
-        ReadAnswer::Lines(count) => { lend_steps(head, console::front_lines(&lines, count)) }
+        ReadAnswer::Lines(count) => { lend_steps(rt, head, console::front_lines(&lines, count)) }
         ReadAnswer::Refused(why) => {
             let said = sheet::refusal_numbers(why);
-            tell_answer(head, refusal(said.number as usize, said.line))
+            tell_answer(rt, head, refusal(said.number as usize, said.line))
         }
     }
 }
 
 // Tries the first bytes of a text as a case's sheet.
-fn try_part(head: &[u8], text: &[u8], size: usize) -> bool {
+fn try_part(rt: &impl Print, head: &[u8], text: &[u8], size: usize) -> bool {
     if byte(head, 0) != b'C' {
-        return tell(false, b"the form of a case");
+        return tell(rt, false, b"the form of a case");
     }
     if size <= text.len() {
         let walked = lines::walks_right(&text[0..size]);
-        let walks = tell(walked, b"the lines of its text");
-        return try_text(head, &text[0..size]) & walks;
+        let walks = tell(rt, walked, b"the lines of its text");
+        return try_text(rt, head, &text[0..size]) & walks;
     }
-    tell(false, b"the form of a case")
+    tell(rt, false, b"the form of a case")
 }
 
 // Tries the first case of the cases that are left.
-fn try_case(cases: &[u8]) -> bool {
+fn try_case(rt: &impl Print, cases: &[u8]) -> bool {
     if cases.len() < 135 {
-        return tell(false, b"the form of a case");
+        return tell(rt, false, b"the form of a case");
     }
     let head = &cases[0..135];
     let text = &cases[135..];
-    print_name(head);
-    try_part(head, text, column_number(head, 1))
+    print_name(rt, head);
+    try_part(rt, head, text, column_number(head, 1))
 }
 
 // How many bytes the case at `at` has, at most all that are left.
@@ -325,16 +325,16 @@ fn case_size(cases: &[u8], at: usize) -> usize
 }
 
 // Ends the line of a case and counts it.
-fn count_case(tried: Tried, right: bool) -> Tried {
+fn count_case(rt: &impl Print, tried: Tried, right: bool) -> Tried {
     let cases = table::one_more(tried.cases);
     if right {
-        print(b", as it must be\n");
+        print(rt, b", as it must be\n");
         return Tried {
             cases,
             differ: tried.differ,
         };
     }
-    print(b"\n");
+    print(rt, b"\n");
     Tried {
         cases,
         differ: table::one_more(tried.differ),
@@ -342,15 +342,15 @@ fn count_case(tried: Tried, right: bool) -> Tried {
 }
 
 // Tries all cases.
-fn try_cases(cases: &[u8]) -> Tried {
+fn try_cases(rt: &impl Print, cases: &[u8]) -> Tried {
     let mut tried = Tried {
         cases: 0,
         differ: 0,
     };
     let mut at: usize = 0;
     while at < cases.len() {
-        let right = try_case(&cases[at..]);
-        tried = count_case(tried, right);
+        let right = try_case(rt, &cases[at..]);
+        tried = count_case(rt, tried, right);
         at += case_size(cases, at);
     }
     tried
@@ -367,56 +367,68 @@ fn pattern(numbers: &[u32]) -> Said {
     }
 }
 
-fn try_pattern(name: &[u8], numbers: &[u32], letter: u8, number: usize) -> bool {
+fn try_pattern(rt: &impl Print, name: &[u8], numbers: &[u32], letter: u8, number: usize) -> bool {
     let said = pattern(numbers);
     let n = said.numbers;
-    print(name);
-    print_said(said);
-    tell((said.letter == letter) & (n[0] == number), b"what is given")
+    print(rt, name);
+    print_said(rt, said);
+    tell(
+        rt,
+        (said.letter == letter) & (n[0] == number),
+        b"what is given",
+    )
 }
 
-fn try_patterns(sheets: Tried) -> Tried {
+fn try_patterns(rt: &impl Print, sheets: Tried) -> Tried {
     let zeros = try_pattern(
+        rt,
         b"pattern of (0, 0)                       ",
         &[0, 0],
         b'P',
         3,
     );
-    let first = count_case(sheets, zeros);
+    let first = count_case(rt, sheets, zeros);
     let between = try_pattern(
+        rt,
         b"pattern of (7, 0, 7, 0)                 ",
         &[7, 0, 7, 0],
         b'P',
         16,
     );
-    let second = count_case(first, between);
-    let none = try_pattern(b"pattern of no number                    ", &[], b'N', 10);
-    count_case(second, none)
+    let second = count_case(rt, first, between);
+    let none = try_pattern(
+        rt,
+        b"pattern of no number                    ",
+        &[],
+        b'N',
+        10,
+    );
+    count_case(rt, second, none)
 }
 
 // Prints how many cases were tried, and how many of them differ. Where that cannot be written, the reason is written to standard error.
-fn print_tried(all: Tried) {
-    print_number(b"", all.cases);
+fn print_tried(rt: &(impl Print + Eprint), all: Tried) {
+    print_number(rt, b"", all.cases);
     if all.differ == 0 {
-        console::print(b" cases, all match\n");
+        console::print(rt, b" cases, all match\n");
     } else {
-        print_number(b" cases, ", all.differ);
-        console::print(b" DIFFER\n");
+        print_number(rt, b" cases, ", all.differ);
+        console::print(rt, b" DIFFER\n");
     }
 }
 
 // Tries all sheets and the patterns, and prints what is found.
-fn try_all(sheets: &[u8]) {
-    let tried = try_cases(sheets);
-    print_tried(try_patterns(tried));
+fn try_all(rt: &(impl Print + Eprint), sheets: &[u8]) {
+    let tried = try_cases(rt, sheets);
+    print_tried(rt, try_patterns(rt, tried));
 }
 
-fn main() {
+fn main(rt: HostRuntime) {
     let mut cases = [0; 196608];
     let usage =
         b"usage: cases [FILE]\nTries the cases in FILE, or in standard input where FILE is - or none is named.\n";
-    match console::read_input(usage, &mut cases) {
-        Input::Text(size) => try_all(console::front(&cases, size)),
+    match console::read_input(&rt, usage, &mut cases) {
+        Input::Text(size) => try_all(&rt, console::front(&cases, size)),
         Input::Nothing => {}
     }
 }

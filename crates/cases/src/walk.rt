@@ -6,7 +6,7 @@ use crate::small_chase::{
 };
 use crate::table::{add, entry, number, same, size};
 
-#[derive(Drop)]
+#[derive(Clone, Copy)]
 pub(crate) struct Step {
     pub rule: usize,
     pub head: usize,
@@ -16,7 +16,7 @@ pub(crate) struct Step {
 }
 
 // Where the steps have led: the last record, the place in it of the value that is followed (0 where none is yet), whether all steps were right.
-#[derive(Drop)]
+#[derive(Clone, Copy)]
 pub(crate) struct Going {
     pub record: [u32; 8],
     pub place: usize,
