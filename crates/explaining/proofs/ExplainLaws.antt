@@ -21,7 +21,7 @@ use Rattle.judging.specs.declared.Figures.{Figures}
 use Rattle.judging.specs.declared.JudgeAnswer.{JudgeAnswer}
 use Rattle.judging.specs.declared.JudgeAnswer.TheVariants.{Settles, Endless, Refused}
 use Rattle.sentences.specs.Sentence.{told, text_of}
-use Rattle.sentences.specs.Explain.{Explained, Explains, Refuses, wrong, many, settles, short, ExplainMeets}
+use Rattle.sentences.specs.Explain.{Explains, Refuses, wrong, many, settles, short, ExplainMeets}
 use Rattle.sentences.proofs.Naming.{Named, answer_named}
 use Rattle.explaining.specs.Answer.{explain_says, explain_refusal_number, explain_refusal_line}
 use Rattle.explaining.specs.declared.ExplainRefusal.{ExplainRefusal}

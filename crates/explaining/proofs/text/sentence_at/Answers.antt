@@ -6,9 +6,6 @@ use Rattle.rules.specs.Table.{rules_in}
 use Rattle.sentences.specs.Inner.Naming.{Names}
 use Rattle.explaining.specs.Inner.Text.{KindsAre}
 use Rattle.explaining.proofs.TextLaws.{sentence-looked-up}
-use Rattle.explaining.proofs.text.kinds_of.Reads as kinds-of-reads
-use Rattle.explaining.proofs.wide.to_u32.Reads as to-u32-reads
-use Rattle.explaining.proofs.wide.to_usize.Reads as to-usize-reads
 use Rattle.explaining.proofs.text.sentence_at.Goals as goal
 
 pub kinds_of-kinds-requires : goal.kinds_of-kinds-requires
