@@ -1,6 +1,5 @@
 -- `outlook::outlook_lines` meets its contract: each answer of the forecast is put. Assumes nothing.
-use mathlib.Core.Path.{◌≡◌, ap₂, ◌∙◌}
-use Prim.Native.Nat.{◌≤◌}
+use mathlib.Core.Path.{ap₂, ◌∙◌}
 use native.Mathlib.Omega.{arith}
 use Rattle.growth.specs.Contract.{foretold, refuses}
 use Rattle.forecasting.specs.Answer.{figures_of, forecast_refusal_number, forecast_refusal_line}
