@@ -1,8 +1,6 @@
 -- `listing::seven_at` meets its contract. Assumes nothing.
 use mathlib.Core.Path.{sym, ◌∙◌}
-use Prim.Native.Nat.{◌+◌}
 use native.Mathlib.Nat.{add_assoc}
-use borrow.Author.Rules.{rules}
 use Rattle.patterns.proofs.ListLaws.{numbers-from}
 use Rattle.listing.proofs.seven_at.Goals as goal
 

@@ -1,5 +1,4 @@
 -- `run_with` meets its contract: how the run begins, and that all records are visited. Assumes nothing.
-use borrow.Author.Rules.{rules}
 use Rattle.running.proofs.RunLaws.{marks-right, begun_running}
 use Rattle.running.proofs.run_with.Goals as goal
 

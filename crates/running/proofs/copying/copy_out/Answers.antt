@@ -5,9 +5,6 @@ use Prim.Native.Nat.{ℕ, ◌*◌}
 use native.Mathlib.Omega.{arith}
 use lib.ListN.{drop}
 use Rattle.running.proofs.CopyLaws.{copied, copied_next, copied_size}
-use Rattle.running.proofs.copying.copy_out.Reads as reads
-use Rattle.running.proofs.copying.copy_out.Lts as lts
-use Rattle.running.proofs.copying.copy_record.Reads as copy-record-reads
 use Rattle.running.proofs.copying.copy_out.Goals as goal
 
 pub loop-i-init : goal.loop-i-init

@@ -4,9 +4,6 @@ use mathlib.Core.List.{◌++◌}
 use Prim.Native.Nat.{◌-◌, ◌*◌, ◌≤◌}
 use lib.ListN.{drop}
 use Rattle.running.proofs.CopyLaws.{copied}
-use Rattle.running.proofs.copying.copy_out.Reads as reads
-use Rattle.running.proofs.copying.copy_out.Lts as lts
-use Rattle.running.proofs.copying.copy_record.Reads as copy-record-reads
 use Rattle.running.proofs.copying.copy_out.Given as goal
 
 abbrev pub invariant-loop-i : goal.invariant-loop-i

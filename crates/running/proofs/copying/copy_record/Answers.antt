@@ -8,8 +8,6 @@ use Rattle.rules.specs.Inner.Bytes.{Part}
 use Rattle.carrying.specs.Contract.{row_line}
 use Rattle.running.specs.Held.{unpacked, row_at}
 use Rattle.running.proofs.CopyLaws.{line_number, line_begun, part_self, part_over, part_next}
-use Rattle.running.proofs.copying.copy_record.Reads as reads
-use Rattle.running.proofs.copying.copy_record.Lts as lts
 use Rattle.running.proofs.copying.copy_record.Goals as goal
 
 pub bounds-records-i-2 : goal.bounds-records-i-2

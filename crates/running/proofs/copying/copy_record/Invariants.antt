@@ -5,8 +5,6 @@ use Rattle.sheet.specs.Line.{lent}
 use Rattle.rules.specs.Inner.Bytes.{Part}
 use Rattle.carrying.specs.Contract.{row_line}
 use Rattle.running.specs.Held.{unpacked, row_at}
-use Rattle.running.proofs.copying.copy_record.Reads as reads
-use Rattle.running.proofs.copying.copy_record.Lts as lts
 use Rattle.running.proofs.copying.copy_record.Given as goal
 
 abbrev pub invariant-loop-k : goal.invariant-loop-k

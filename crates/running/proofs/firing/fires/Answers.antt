@@ -2,7 +2,6 @@
 use mathlib.Core.Path.{◌≡◌, sym, ap, ◌∙◌}
 use Prim.Native.Nat.{ℕ, ◌+◌, ◌<◌}
 use native.Mathlib.Omega.{arith}
-use borrow.Author.Rules.{rules}
 use lib.ListN.{length, get_or}
 use Rattle.rules.specs.Table.{row_bytes}
 use Rattle.rules.proofs.RuleLaws.{RowFits, row_fits, Width, Mark, width_read, mark_read, place_few, place-some, place_field}

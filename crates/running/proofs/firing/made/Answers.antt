@@ -7,7 +7,7 @@ use lib.ListN.{length}
 use Rattle.chase.specs.Lists.{In}
 use Rattle.rules.specs.Table.{row_bytes}
 use Rattle.rules.proofs.PartLaws.{part_more}
-use Rattle.rules.proofs.RuleLaws.{RowFits, Width, Mark, head_width_read, head_mark_read, head_below}
+use Rattle.rules.proofs.RuleLaws.{Width, Mark, head_width_read, head_mark_read, head_below}
 use Rattle.carrying.specs.Carrying.{row_made}
 use Rattle.running.specs.Inner.Held.{code_of}
 use Rattle.running.specs.Inner.Firing.{rule_at, row_no, head_no}

@@ -2,9 +2,8 @@
 use mathlib.Core.Path.{◌≡◌, sym, ap, ◌∙◌}
 use Prim.Native.Nat.{◌+◌, ◌-◌, ◌<◌, ◌≤◌}
 use native.Mathlib.Omega.{arith}
-use borrow.Author.Rules.{rules}
-use Rattle.rules.specs.Table.{row_bytes, first_place}
-use Rattle.rules.proofs.RuleLaws.{RowFits, row_fits, place_read, place_few}
+use Rattle.rules.specs.Table.{first_place}
+use Rattle.rules.proofs.RuleLaws.{row_fits, place_read, place_few}
 use Rattle.running.specs.Inner.Held.{row_at}
 use Rattle.running.specs.Inner.Firing.{rule_at, value_from}
 use Rattle.running.proofs.FiringLaws.{value_place}

@@ -1,7 +1,6 @@
 -- `firings` meets its contract: the pairs of one rule are counted after those of the other. Assumes nothing.
 use mathlib.Core.Path.{sym, ◌∙◌}
 use native.Mathlib.Omega.{arith}
-use borrow.Author.Rules.{rules}
 use Rattle.running.proofs.CountLaws.{no_pairs, stored_forgotten, totalling_begun, totalling_more, totalling_done}
 use Rattle.running.proofs.firings.firings.Goals as goal
 

@@ -1,6 +1,5 @@
 -- `firings` meets its contract: the pairs of one rule are counted after those of the other. Assumes nothing.
 use Prim.Native.Nat.{◌-◌}
-use borrow.Author.Rules.{rules}
 use Rattle.running.proofs.CountLaws.{Totalling}
 use Rattle.running.proofs.firings.firings.Given as goal
 

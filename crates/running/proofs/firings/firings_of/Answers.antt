@@ -1,7 +1,6 @@
 -- `firings_of` meets its contract: the pairs that are noted are those of the rule on the records passed. Assumes nothing.
 use mathlib.Core.Path.{sym, ◌∙◌, subst}
 use native.Mathlib.Omega.{arith}
-use borrow.Author.Rules.{rules}
 use Rattle.rules.specs.Inner.Tests.{Decides}
 use Rattle.carrying.specs.Carrying.{FiresOn}
 use Rattle.running.specs.Inner.Firing.{rule_at, row_no}

@@ -1,6 +1,5 @@
 -- `firings_of` meets its contract: the pairs that are noted are those of the rule on the records passed. Assumes nothing.
 use Prim.Native.Nat.{◌-◌}
-use borrow.Author.Rules.{rules}
 use Rattle.running.proofs.CountLaws.{Counting}
 use Rattle.running.proofs.firings.firings_of.Given as goal
 

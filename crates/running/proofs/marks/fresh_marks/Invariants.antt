@@ -1,6 +1,5 @@
 -- `running::marks::fresh_marks` meets its contract. The invariant: the rules so far have theirs. Assumes nothing.
 use Prim.Native.Nat.{◌-◌}
-use borrow.Author.Rules.{rules}
 use Rattle.running.proofs.MarkLaws.{PreparedTo}
 use Rattle.running.proofs.marks.fresh_marks.Given as goal
 

@@ -2,7 +2,6 @@
 use mathlib.Core.Path.{◌≡◌, ◌∙◌}
 use Prim.Native.Nat.{◌<◌}
 use native.Mathlib.Omega.{arith}
-use borrow.Author.Rules.{rules}
 use Rattle.rules.specs.Table.{source_at}
 use Rattle.rules.proofs.RuleLaws.{row_fits}
 use Rattle.running.specs.Inner.Held.{row_at}

@@ -1,5 +1,4 @@
 -- `pairs::find` meets its contract: the chain of the bucket is followed until the pair is met or the chain ends. Assumes nothing.
-use borrow.Author.Rules.{rules}
 use Rattle.running.proofs.PairLaws.{Seeking}
 use Rattle.running.proofs.pairs.find.Given as goal
 

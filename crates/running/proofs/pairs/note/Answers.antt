@@ -2,9 +2,6 @@
 use mathlib.Core.Path.{ap, ◌∙◌}
 use native.Mathlib.Omega.{arith}
 use lib.ListN.{length, length-set}
-use Rattle.running.proofs.pairs.note.Reads as reads
-use Rattle.running.proofs.pairs.note.Lts as lts
-use Rattle.running.proofs.records.push.Reads as push-reads
 use Rattle.running.proofs.pairs.note.Goals as goal
 
 pub bounds-index-count-2 : goal.bounds-index-count-2

@@ -2,7 +2,6 @@
 use mathlib.Core.Path.{◌≡◌, ◌∙◌, subst}
 use Prim.Native.Nat.{◌<◌}
 use native.Mathlib.Omega.{arith}
-use borrow.Author.Rules.{rules}
 use Rattle.rules.specs.Table.{source_at}
 use Rattle.rules.specs.Inner.Tests.{Decides}
 use Rattle.rules.proofs.RuleLaws.{row_fits}

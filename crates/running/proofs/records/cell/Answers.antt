@@ -1,9 +1,6 @@
 -- `cell` meets its contract. Assumes nothing.
 use mathlib.Core.Path.{sym, ◌∙◌}
 use Rattle.running.proofs.RecordLaws.{row_at_cell}
-use Rattle.running.proofs.records.cell.Reads as reads
-use Rattle.running.proofs.records.cell.Lts as lts
-use Rattle.running.proofs.wide.of_u32.Reads as of-u32-reads
 use Rattle.running.proofs.records.cell.Goals as goal
 
 pub returns : goal.returns

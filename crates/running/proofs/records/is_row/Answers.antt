@@ -3,8 +3,6 @@ use native.Mathlib.Omega.{arith}
 use borrow.Author.Count.{below_more}
 use borrow.Author.Rules.{rules}
 use Rattle.running.proofs.RecordLaws.{same_row, other_row}
-use Rattle.running.proofs.records.is_row.Reads as reads
-use Rattle.running.proofs.records.is_row.Lts as lts
 use Rattle.running.proofs.records.is_row.Goals as goal
 
 pub loop-k-init : goal.loop-k-init

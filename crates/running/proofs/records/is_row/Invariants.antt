@@ -2,8 +2,6 @@
 use mathlib.Core.Path.{◌≡◌}
 use Prim.Native.Nat.{ℕ, ◌≤◌, ◌<◌, ◌-◌, ◌+◌, ◌*◌}
 use lib.ListN.{get_or}
-use Rattle.running.proofs.records.is_row.Reads as reads
-use Rattle.running.proofs.records.is_row.Lts as lts
 use Rattle.running.proofs.records.is_row.Given as goal
 
 abbrev pub invariant-loop-k : goal.invariant-loop-k

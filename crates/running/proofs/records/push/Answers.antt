@@ -1,8 +1,6 @@
 -- `push` meets its contract. Assumes nothing.
 use native.Mathlib.Omega.{arith}
 use lib.ListN.{length-set}
-use Rattle.running.proofs.records.push.Reads as reads
-use Rattle.running.proofs.records.push.Lts as lts
 use Rattle.running.proofs.records.push.Goals as goal
 
 pub bounds-index-c-3 : goal.bounds-index-c-3

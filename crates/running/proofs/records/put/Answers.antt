@@ -6,8 +6,6 @@ use borrow.Author.Rules.{rules}
 use lib.ListN.{get_or}
 use Rattle.rules.specs.Inner.Bytes.{Part}
 use Rattle.rules.proofs.PartLaws.{part_none, part_more}
-use Rattle.running.proofs.records.put.Reads as reads
-use Rattle.running.proofs.records.put.Lts as lts
 use Rattle.running.proofs.records.put.Goals as goal
 
 pub loop-k-init : goal.loop-k-init

@@ -2,8 +2,6 @@
 use Prim.Native.Nat.{ℕ, ◌-◌, ◌*◌, ◌≤◌}
 use lib.ListN.{get_or}
 use Rattle.rules.specs.Inner.Bytes.{Part}
-use Rattle.running.proofs.records.put.Reads as reads
-use Rattle.running.proofs.records.put.Lts as lts
 use Rattle.running.proofs.records.put.Given as goal
 
 abbrev pub invariant-loop-k : goal.invariant-loop-k

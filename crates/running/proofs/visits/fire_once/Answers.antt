@@ -1,16 +1,8 @@
 -- `fire_once` meets its contract: the pair is there, has no room, or is noted and the rule fires. Assumes nothing.
 use mathlib.Core.Path.{sym, subst, ◌∙◌}
 use native.Mathlib.Omega.{arith}
-use borrow.Author.Rules.{rules}
 use Rattle.running.specs.Inner.Firing.{Ready}
 use Rattle.running.proofs.VisitLaws.{record_in, records_in, noted_room, pair_there, pair_nowhere, left_there, left_full, left_new, stored_noted}
-use Rattle.running.proofs.visits.fire_once.Reads as reads
-use Rattle.running.proofs.visits.fire_once.Lts as lts
-use Rattle.running.proofs.firing.fire.Reads as fire-reads
-use Rattle.running.proofs.pairs.bucket.Reads as bucket-reads
-use Rattle.running.proofs.pairs.find.Reads as find-reads
-use Rattle.running.proofs.pairs.note.Reads as note-reads
-use Rattle.running.proofs.wide.of_u8.Reads as of-u8-reads
 use Rattle.running.proofs.visits.fire_once.Goals as goal
 
 pub bucket-b-requires : goal.bucket-b-requires

@@ -1,15 +1,9 @@
 -- `fire_rule` meets its contract: with its pairs kept, or else without. Assumes nothing.
 use mathlib.Core.Path.{sym, subst, ◌∙◌}
 use native.Mathlib.Omega.{arith}
-use borrow.Author.Rules.{rules}
 use Rattle.running.specs.Inner.Firing.{Ready}
 use Rattle.running.specs.Inner.Visits.{keep_in}
 use Rattle.running.proofs.VisitLaws.{left_once, left_made}
-use Rattle.running.proofs.visits.fire_rule.Reads as reads
-use Rattle.running.proofs.visits.fire_rule.Lts as lts
-use Rattle.running.proofs.firing.fire.Reads as fire-reads
-use Rattle.running.proofs.wide.of_u8.Reads as of-u8-reads
-use Rattle.running.proofs.visits.fire_once.Reads as fire-once-reads
 use Rattle.running.proofs.visits.fire_rule.Goals as goal
 
 pub overflow_add-r : goal.overflow_add-r

@@ -1,6 +1,5 @@
 -- `visit` meets its contract. The loop's invariant: the first r rules are visited, and the others lead to the last state. Assumes nothing.
 use Prim.Native.Nat.{◌-◌}
-use borrow.Author.Rules.{rules}
 use Rattle.running.specs.Inner.Firing.{row_no}
 use Rattle.running.specs.Inner.Visits.{state_at, kept_rules, keep_in, rules_from}
 use Rattle.running.proofs.VisitLaws.{Going}

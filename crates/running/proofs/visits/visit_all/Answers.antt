@@ -1,9 +1,6 @@
 -- `visit_all` meets its contract. The invariant: where the visits stand, and the others lead to the last state. Assumes nothing.
 use native.Mathlib.Omega.{arith}
 use Rattle.running.proofs.VisitLaws.{visiting_begun, visiting_more, visiting_over}
-use Rattle.running.proofs.visits.visit_all.Reads as reads
-use Rattle.running.proofs.visits.visit_all.Lts as lts
-use Rattle.running.proofs.visits.visit.Reads as visit-reads
 use Rattle.running.proofs.visits.visit_all.Goals as goal
 
 pub loop-i-init : goal.loop-i-init

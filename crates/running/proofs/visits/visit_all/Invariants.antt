@@ -1,11 +1,7 @@
 -- `visit_all` meets its contract. The invariant: where the visits stand, and the others lead to the last state. Assumes nothing.
 use Prim.Native.Nat.{◌-◌, ◌≤◌}
-use borrow.Author.Rules.{rules}
 use Rattle.running.specs.Inner.Visits.{state_at}
 use Rattle.running.proofs.VisitLaws.{Visiting}
-use Rattle.running.proofs.visits.visit_all.Reads as reads
-use Rattle.running.proofs.visits.visit_all.Lts as lts
-use Rattle.running.proofs.visits.visit.Reads as visit-reads
 use Rattle.running.proofs.visits.visit_all.Given as goal
 
 abbrev pub invariant-loop-i : goal.invariant-loop-i

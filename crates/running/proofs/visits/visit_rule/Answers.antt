@@ -6,10 +6,6 @@ use Rattle.running.specs.Inner.Firing.{rule_at, row_no}
 use Rattle.running.proofs.FiringLaws.{stored_record}
 use Rattle.running.specs.Inner.Visits.{keep_in}
 use Rattle.running.proofs.VisitLaws.{left_fires, left_idle}
-use Rattle.running.proofs.visits.visit_rule.Reads as reads
-use Rattle.running.proofs.visits.visit_rule.Lts as lts
-use Rattle.running.proofs.firing.fires.Reads as fires-reads
-use Rattle.running.proofs.visits.fire_rule.Reads as fire-rule-reads
 use Rattle.running.proofs.visits.visit_rule.Goals as goal
 
 pub fires-requires : goal.fires-requires
