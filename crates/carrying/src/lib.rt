@@ -1,3 +1,2 @@
 // What carrying the rules of a sheet out gives.
 #![tactic(auto)]
-

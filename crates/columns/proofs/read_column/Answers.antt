@@ -39,7 +39,7 @@ loop-i-preserved c =
     let loop = c.loop-i in
     let again : ℕ → Type 0 = λ m. Read c.args.s.now c.args.at (loop.i + 1) m in
     elim c.if-b-eq32.branch [
-      then-b-eq32+else-n-ne0 w ↦ subst again (sym w.n-is) (blank_again _ _ _ _ loop.invariant c.loop-i-test.true w.if-b-eq32.true w.if-n-ne0.false)
+      | then-b-eq32+else-n-ne0 w ↦ subst again (sym w.n-is) (blank_again _ _ _ _ loop.invariant c.loop-i-test.true w.if-b-eq32.true w.if-n-ne0.false)
       | else-b-eq32+else-b-lt48+else-b-gt57+else-n-eq0 w ↦
           subst again (sym w.n-is) (digit _ _ _ _ _ loop.invariant c.loop-i-test.true w.if-b-lt48.false w.if-b-gt57.false w.wide.ensures w.if-n-eq0.false)
     ]

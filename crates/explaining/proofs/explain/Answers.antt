@@ -27,8 +27,7 @@ returns-in-Settles c =
 
 pub returns-in-Refused : goal.returns-in-Refused
 returns-in-Refused c =
-    let steps = c.no_steps-steps in
-     (
+    let steps = c.no_steps-steps in (
       refused c.args.lines.now steps.result c.judge.new.steps c.judge.result steps.ensures c.judge.ensures c.args.text.now _
           c.in-Refused.is c.judge_refused.result c.judge_refused.ensures,
       refl,

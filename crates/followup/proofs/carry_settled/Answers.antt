@@ -13,15 +13,15 @@ encode_records-requires c =
 
 pub returns-in-Ended : goal.returns-in-Ended
 returns-in-Ended c =
-    carries_ended (λ i. omega (arith, c.slice_known-2-1.given i)) c.requires.0 c.carried.result (ran_ended c.args.numbers.now c.room_for_records-rows.result c.run.new.places.0 (length c.args.places.now) c.run.result c.run.ensures _ c.in-Ended.is) c.carried.ensures c.encode_records.ensures
+    carries_ended (λ i. omega (arith, c.type_inv.records i)) c.requires.0 c.carried.result (ran_ended c.args.numbers.now c.room_for_records-rows.result c.run.new.places.0 (length c.args.places.now) c.run.result c.run.ensures _ c.in-Ended.is) c.carried.ensures c.encode_records.ensures
 
 pub returns-in-RecordsOver : goal.returns-in-RecordsOver
 returns-in-RecordsOver c =
-    carries_none _ _ (λ i. omega (arith, c.slice_known-2-1.given i)) _ _ _ (carry_over c.requires.0 (ran_over c.args.numbers.now c.room_for_records-rows.result c.run.new.places.0 (length c.args.places.now) c.run.result c.run.ensures c.in-RecordsOver.is)) c.carry_refuses.ensures
+    carries_none _ _ (λ i. omega (arith, c.type_inv.records i)) _ _ _ (carry_over c.requires.0 (ran_over c.args.numbers.now c.room_for_records-rows.result c.run.new.places.0 (length c.args.places.now) c.run.result c.run.ensures c.in-RecordsOver.is)) c.carry_refuses.ensures
 
 pub returns-in-NumberOver : goal.returns-in-NumberOver
 returns-in-NumberOver c =
-    carries_none _ _ (λ i. omega (arith, c.slice_known-2-1.given i)) _ _ _ (carry_large c.requires.0 (ran_large c.args.numbers.now c.room_for_records-rows.result c.run.new.places.0 (length c.args.places.now) c.run.result c.run.ensures c.in-NumberOver.is)) c.carry_refuses-in-NumberOver.ensures
+    carries_none _ _ (λ i. omega (arith, c.type_inv.records i)) _ _ _ (carry_large c.requires.0 (ran_large c.args.numbers.now c.room_for_records-rows.result c.run.new.places.0 (length c.args.places.now) c.run.result c.run.ensures c.in-NumberOver.is)) c.carry_refuses-in-NumberOver.ensures
 
 pub returns-in-LineWrong : goal.returns-in-LineWrong
 returns-in-LineWrong c =

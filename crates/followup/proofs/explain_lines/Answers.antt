@@ -9,7 +9,7 @@ use Rattle.followup.proofs.explain_lines.Goals as goal
 pub slice_bounds-explain-end-2 : goal.slice_bounds-explain-end-2
 slice_bounds-explain-end-2 c =
     let d = c.decode_lines-count in
-    sym (length-take-le _ _ (omega (arith, d.auto.1.0, d.ensures.0)))
+    sym (length-take-le _ _ (omega (arith, d.auto.numbers, d.ensures.0)))
 
 pub returns : goal.returns
 returns c =

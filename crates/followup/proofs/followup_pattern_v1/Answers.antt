@@ -15,7 +15,7 @@ found : (c : After-pattern)
 found c = c.pattern.ensures ∙ pattern-found _ _ _ _ c.count_of-count.ensures c.decode.ensures
 
 pub slice_bounds-pattern-end : goal.slice_bounds-pattern-end
-slice_bounds-pattern-end c = sym (length-take-le _ _ (omega (arith, c.decode.auto.1.0)))
+slice_bounds-pattern-end c = sym (length-take-le _ _ (omega (arith, c.decode.auto.numbers)))
 
 pub returns-in-Number : goal.returns-in-Number
 returns-in-Number c =

@@ -9,11 +9,11 @@ use Rattle.followup.proofs.judge_lines.Goals as goal
 pub slice_bounds-judge_numbers-end-2 : goal.slice_bounds-judge_numbers-end-2
 slice_bounds-judge_numbers-end-2 c =
     let d = c.decode_lines-count in
-    sym (length-take-le _ _ (omega (arith, d.auto.1.0, d.ensures.0)))
+    sym (length-take-le _ _ (omega (arith, d.auto.numbers, d.ensures.0)))
 
 pub returns : goal.returns
 returns c =
     let a = c.args in
     let d = c.decode_lines-count in
-    judges_truncated (take d.result d.new.1.0) a.lines.now a.steps.now c.judge_numbers.result _ d.ensures.1
+    judges_truncated (take d.result d.new.numbers) a.lines.now a.steps.now c.judge_numbers.result _ d.ensures.1
     c.judge_numbers.ensures

@@ -21,9 +21,9 @@ overflow_add-said c = omega (arith, few (goal.at.overflow_add-said c).After-judg
 
 pub encode_u16-requires : goal.encode_u16-requires
 encode_u16-requires c =
-    (omega (arith, few (goal.at.encode_u16-requires c).After-judge_reply-said, c.judge.auto.1.0, c.room_for_steps-written.ensures), omega (arith, few (goal.at.encode_u16-requires c).After-judge_reply-said, c.requires))
+    (omega (arith, few (goal.at.encode_u16-requires c).After-judge_reply-said, c.judge.auto.steps, c.room_for_steps-written.ensures), omega (arith, few (goal.at.encode_u16-requires c).After-judge_reply-said, c.requires))
 
 pub returns : goal.returns
 returns c =
-    judges c.args.numbers.now c.args.steps.now (λ i. omega (arith, c.slice_known-1.given i)) c.requires _ _ (judge_says c.judge.result) c.judge_reply-said.result
+    judges c.args.numbers.now c.args.steps.now (λ i. omega (arith, c.type_inv.steps i)) c.requires _ _ (judge_says c.judge.result) c.judge_reply-said.result
     (omega (arith, c.room_for_steps-written.ensures)) c.judge.ensures c.judge_reply-said.ensures c.encode_u16.ensures

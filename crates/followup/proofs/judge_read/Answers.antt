@@ -21,10 +21,10 @@ pub overflow_mul-said : goal.overflow_mul-said
 overflow_mul-said c = omega (arith, fit (goal.at.overflow_mul-said c).After-read_numbers-said)
 
 pub slice_bounds-judge_numbers-end : goal.slice_bounds-judge_numbers-end
-slice_bounds-judge_numbers-end c = omega (arith, fit (goal.at.slice_bounds-judge_numbers-end c).After-read_numbers-said, c.read_numbers-said.auto.1.0)
+slice_bounds-judge_numbers-end c = omega (arith, fit (goal.at.slice_bounds-judge_numbers-end c).After-read_numbers-said, c.read_numbers-said.auto.numbers)
 
 pub slice_bounds-judge_numbers-end-then-said-eq0 : goal.slice_bounds-judge_numbers-end-then-said-eq0
-slice_bounds-judge_numbers-end-then-said-eq0 c = sym (length-take-le _ _ (omega (arith, fit (goal.at.slice_bounds-judge_numbers-end-then-said-eq0 c).After-read_numbers-said, c.read_numbers-said.auto.1.0)))
+slice_bounds-judge_numbers-end-then-said-eq0 c = sym (length-take-le _ _ (omega (arith, fit (goal.at.slice_bounds-judge_numbers-end-then-said-eq0 c).After-read_numbers-said, c.read_numbers-said.auto.numbers)))
 
 pub returns-then-said-eq0 : goal.returns-then-said-eq0
 returns-then-said-eq0 c =
@@ -36,4 +36,4 @@ pub returns : goal.returns
 returns c =
     let a = c.args in
     text_refused a.text.now a.numbers.now _ c.read_numbers-said.result c.read_numbers-said.ensures (enough (goal.at.returns c).After-read_numbers-said) a.steps.now
-    (λ i. omega (arith, c.slice_known-2-1.given i)) c.requires.1 c.if-said-eq0.false c.no_judgement.result c.no_judgement.ensures
+    (λ i. omega (arith, c.type_inv.steps i)) c.requires.1 c.if-said-eq0.false c.no_judgement.result c.no_judgement.ensures

@@ -26,7 +26,7 @@ room c = length-take-le _ _ (omega (arith, c.least-room.ensures)) ∙ ap (λ k. 
 
 -- the numbers after reading are as many as before
 whole : (c : After-read_numbers-said) → length (c.read_numbers-said.new.numbers ++ drop (lent c) c.args.numbers.now) ≡ length c.args.numbers.now
-whole c = length_front c.args.numbers.now c.read_numbers-said.new.numbers (lent c) c.read_numbers-said.auto.1.0
+whole c = length_front c.args.numbers.now c.read_numbers-said.new.numbers (lent c) c.read_numbers-said.auto.numbers
 
 few : (c : After-read_numbers-said) → 8 * c.read_numbers-said.result.count ≤ 8 * min (length c.args.lines.now / 4 / 8) (most c)
 few c =

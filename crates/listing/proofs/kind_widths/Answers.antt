@@ -40,7 +40,7 @@ loop-n-preserved c =
     let w = c.loop-n.invariant in
     let more = c.loop-n-test.true in
     elim c.if-lines-n-eq-LETTER_K.branch [
-      then-lines-n-eq-LETTER_K u ↦ rw u.widths-is (widening_kind c.requires w more u.if-lines-n-eq-LETTER_K.true)
+      | then-lines-n-eq-LETTER_K u ↦ rw u.widths-is (widening_kind c.requires w more u.if-lines-n-eq-LETTER_K.true)
       | else-lines-n-eq-LETTER_K u ↦ rw u.widths-is (widening_other c.requires w more u.if-lines-n-eq-LETTER_K.false)
     ]
 

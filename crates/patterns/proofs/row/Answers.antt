@@ -4,4 +4,4 @@ use Rattle.patterns.proofs.row.Goals as goal
 
 pub returns : goal.returns
 returns c =
-     six_at c.args.table.now c.args.at c.requires
+    six_at c.args.table.now c.args.at c.requires

@@ -18,8 +18,7 @@ returns-then-is_short c =
 
 pub fill_line-requires : goal.fill_line-requires
 fill_line-requires c =
-    let short = sym c.is_short.ensures ∙ c.if-is_short.false in
-     (
+    let short = sym c.is_short.ensures ∙ c.if-is_short.false in (
       sym c.in_range.ensures ∙ c.if-not-in_range.false,
       omega (arith, ltb-false (length c.args.text.now - c.args.at) (9 * length c.args.numbers.now + 2) short),
     )

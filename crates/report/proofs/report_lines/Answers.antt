@@ -12,22 +12,20 @@ use Rattle.report.proofs.Reports.{filled_by, refusal-filled, judges}
 use Rattle.report.proofs.report_lines.Goals as goal
 
 pub fill_verdict-requires : goal.fill_verdict-requires
-fill_verdict-requires c =
-     (
-      figures_in_range _ c.room_for_steps-steps.result (verdict_of 1 c.in-Settles.f) _ c.requires.0 c.in-Settles.ensures.1,
-      c.in-Settles.ensures.1.room,
-      omega (arith, c.judge.auto.steps, c.room_for_steps-steps.ensures),
-      omega (arith, c.requires.1),
-    )
+fill_verdict-requires c = (
+  figures_in_range _ c.room_for_steps-steps.result (verdict_of 1 c.in-Settles.f) _ c.requires.0 c.in-Settles.ensures.1,
+  c.in-Settles.ensures.1.room,
+  omega (arith, c.judge.auto.steps, c.room_for_steps-steps.ensures),
+  omega (arith, c.requires.1),
+)
 
 pub fill_verdict-requires-in-Endless : goal.fill_verdict-requires-in-Endless
-fill_verdict-requires-in-Endless c =
-     (
-      figures_in_range _ c.room_for_steps-steps.result (verdict_of 2 c.in-Endless.f) _ c.requires.0 c.in-Endless.ensures.1,
-      c.in-Endless.ensures.1.room,
-      omega (arith, c.judge.auto.steps, c.room_for_steps-steps.ensures),
-      omega (arith, c.requires.1),
-    )
+fill_verdict-requires-in-Endless c = (
+  figures_in_range _ c.room_for_steps-steps.result (verdict_of 2 c.in-Endless.f) _ c.requires.0 c.in-Endless.ensures.1,
+  c.in-Endless.ensures.1.room,
+  omega (arith, c.judge.auto.steps, c.room_for_steps-steps.ensures),
+  omega (arith, c.requires.1),
+)
 
 pub returns-in-Settles : goal.returns-in-Settles
 returns-in-Settles c =

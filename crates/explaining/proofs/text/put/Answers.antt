@@ -18,12 +18,11 @@ put-at-requires c =
     c.loop-k-test.true c.requires.2 c.loop-k.invariant.1
 
 pub loop-k-preserved : goal.loop-k-preserved
-loop-k-preserved c =
-     (
-      omega (arith, c.loop-k-test.true),
-      next_sentence (rules_in c.args.lines.now) c.args.steps.now c.args.trail (sentence_for c.sentence_at.result) c.sentence_at.ensures
-          c.loop-k-test.true c.requires.2 c.loop-k.invariant.1 c.put-at.ensures,
-    )
+loop-k-preserved c = (
+  omega (arith, c.loop-k-test.true),
+  next_sentence (rules_in c.args.lines.now) c.args.steps.now c.args.trail (sentence_for c.sentence_at.result) c.sentence_at.ensures
+      c.loop-k-test.true c.requires.2 c.loop-k.invariant.1 c.put-at.ensures,
+)
 
 pub shape_of-text : goal.shape_of-text
 shape_of-text c =

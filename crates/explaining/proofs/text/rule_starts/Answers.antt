@@ -27,7 +27,7 @@ loop-n-preserved c =
     let more = c.loop-n-test.true in
     let next : List ℕ → ℕ → Type 0 = λ starts count. StartsTo c.args.lines.now starts count (c.loop-n.n + 1) in
     elim c.if-lines-n-eq-LETTER_B.branch [
-      then-lines-n-eq-LETTER_B w ↦ subst₂ next (sym w.starts-is) (sym w.count-is) (body-line _ c.requires c.loop-n.invariant more w.if-lines-n-eq-LETTER_B.true)
+      | then-lines-n-eq-LETTER_B w ↦ subst₂ next (sym w.starts-is) (sym w.count-is) (body-line _ c.requires c.loop-n.invariant more w.if-lines-n-eq-LETTER_B.true)
       | else-lines-n-eq-LETTER_B w ↦ subst₂ next (sym w.starts-is) (sym w.count-is) (other_line _ c.requires c.loop-n.invariant more w.if-lines-n-eq-LETTER_B.false)
     ]
 

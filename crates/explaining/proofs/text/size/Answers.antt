@@ -16,13 +16,12 @@ pub overflow_add-size : goal.overflow_add-size
 overflow_add-size c = omega (arith, c.loop-i.invariant.1, c.loop-i.invariant.0, c.requires.2, c.size-size.ensures.1)
 
 pub loop-i-preserved : goal.loop-i-preserved
-loop-i-preserved c =
-     (
-      omega (arith, c.loop-i-test.true),
-      omega (arith, c.loop-i.invariant.1, c.size-size.ensures.1),
-      size_next (rules_in c.args.lines.now) c.args.steps.now c.args.trail c.loop-i.i c.loop-i.size c.size-size.result
-          (sentence_for c.sentence_at.result) c.sentence_at.ensures c.loop-i.invariant.2 c.size-size.ensures.0,
-    )
+loop-i-preserved c = (
+  omega (arith, c.loop-i-test.true),
+  omega (arith, c.loop-i.invariant.1, c.size-size.ensures.1),
+  size_next (rules_in c.args.lines.now) c.args.steps.now c.args.trail c.loop-i.i c.loop-i.size c.size-size.result
+      (sentence_for c.sentence_at.result) c.sentence_at.ensures c.loop-i.invariant.2 c.size-size.ensures.0,
+)
 
 pub returns : goal.returns
 returns c =

@@ -9,10 +9,10 @@ use Rattle.followup.proofs.bytes.u16_at.Goals.{After-shared_slice_known-2-1}
 
 -- each byte is below 256
 small : (c : After-shared_slice_known-2-1) → (get_or c.args.bytes.now c.args.at 0 < 256) × (get_or c.args.bytes.now (c.args.at + 1) 0 < 256)
-small c = (omega (arith, c.shared_slice_known-2-1.given c.args.at), omega (arith, c.shared_slice_known-2-1.given (c.args.at + 1)))
+small c = (omega (arith, c.type_inv.bytes c.args.at), omega (arith, c.type_inv.bytes (c.args.at + 1)))
 
 pub overflow_cast-low : goal.overflow_cast-low
-overflow_cast-low c = omega (arith, c.shared_slice_known-1.given c.args.at)
+overflow_cast-low c = omega (arith, c.type_inv.bytes c.args.at)
 
 pub overflow_cast-high : goal.overflow_cast-high
 overflow_cast-high c = omega (arith, small (goal.at.overflow_cast-high c).After-shared_slice_known-2-1)

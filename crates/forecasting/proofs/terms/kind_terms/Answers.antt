@@ -42,8 +42,8 @@ loop-n-preserved c =
     let here = c.loop-n-test.true in
     let next : List ℕ → Type 0 = λ kinds. KindsSeen c.args.lines.now (at.n + 1) kinds in
     elim c.if-lines-n-eq-LETTER_K.branch [
-      then-lines-n-eq-LETTER_K w ↦ subst next (sym w.kinds-is) (kinds_more held at.invariant here w.if-lines-n-eq-LETTER_K.true _ w.of_u32-width.ensures.0)
-    | else-lines-n-eq-LETTER_K w ↦ subst next (sym w.kinds-is) (kinds_other held at.invariant here w.if-lines-n-eq-LETTER_K.false)
+      | then-lines-n-eq-LETTER_K w ↦ subst next (sym w.kinds-is) (kinds_more held at.invariant here w.if-lines-n-eq-LETTER_K.true _ w.of_u32-width.ensures.0)
+      | else-lines-n-eq-LETTER_K w ↦ subst next (sym w.kinds-is) (kinds_other held at.invariant here w.if-lines-n-eq-LETTER_K.false)
     ]
 
 pub returns : goal.returns

@@ -52,10 +52,10 @@ loop-n-preserved c =
     let here = c.loop-n-test.true in
     let next : List ℕ → List ℕ → Type 0 = λ fresh pairs. RulesSeen c.args.lines.now (at.n + 1) fresh pairs in
     elim c.if-lines-n-eq-LETTER_B.branch [
-      then-lines-n-eq-LETTER_B w ↦ subst₂ next (sym w.fresh-is) (sym w.pairs-is)
-      (rules_more held at.invariant here w.if-lines-n-eq-LETTER_B.true w.rule_marks-marks.result w.rule_marks-marks.ensures)
-    | else-lines-n-eq-LETTER_B w ↦ subst₂ next (sym w.fresh-is) (sym w.pairs-is)
-      (rules_other held at.invariant here w.if-lines-n-eq-LETTER_B.false)
+      | then-lines-n-eq-LETTER_B w ↦ subst₂ next (sym w.fresh-is) (sym w.pairs-is)
+          (rules_more held at.invariant here w.if-lines-n-eq-LETTER_B.true w.rule_marks-marks.result w.rule_marks-marks.ensures)
+      | else-lines-n-eq-LETTER_B w ↦ subst₂ next (sym w.fresh-is) (sym w.pairs-is)
+          (rules_other held at.invariant here w.if-lines-n-eq-LETTER_B.false)
     ]
 
 pub returns : goal.returns

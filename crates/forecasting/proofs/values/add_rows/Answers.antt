@@ -72,15 +72,15 @@ loop-n-preserved c =
     let more = c.loop-n-test.true in
     let held = c.requires.0 in
     elim c.if-letter-eq-LETTER_K.branch [
-      then-letter-eq-LETTER_K w ↦ rw (w.values-is, w.heads-is, w.next-is, w.widths-is, w.count-is, w.zeros-is)
-      (count_other held p more (λ e. omega (arith, w.if-letter-eq-LETTER_K.true, e))
-      (read_kind _ _ _ _ held p.reading more w.if-letter-eq-LETTER_K.true))
-    | else-letter-eq-LETTER_K+then-letter-eq-LETTER_R w ↦ rw (w.values-is, w.heads-is, w.next-is, w.widths-is, w.count-is, w.zeros-is)
-      (count_row held p more w.if-letter-eq-LETTER_R.true w.of_u32.result w.of_u32.ensures.0 w.add_all-count.ensures
-      w.zeros_of-zeros.ensures.0 w.zeros_of-zeros.ensures.1)
-    | else-letter-eq-LETTER_K+else-letter-eq-LETTER_R w ↦ rw (w.values-is, w.heads-is, w.next-is, w.widths-is, w.count-is, w.zeros-is)
-      (count_other held p more w.if-letter-eq-LETTER_R.false
-      (read_other _ _ _ _ held p.reading more w.if-letter-eq-LETTER_K.false w.if-letter-eq-LETTER_R.false))
+      | then-letter-eq-LETTER_K w ↦ rw (w.values-is, w.heads-is, w.next-is, w.widths-is, w.count-is, w.zeros-is)
+          (count_other held p more (λ e. omega (arith, w.if-letter-eq-LETTER_K.true, e))
+          (read_kind _ _ _ _ held p.reading more w.if-letter-eq-LETTER_K.true))
+      | else-letter-eq-LETTER_K+then-letter-eq-LETTER_R w ↦ rw (w.values-is, w.heads-is, w.next-is, w.widths-is, w.count-is, w.zeros-is)
+          (count_row held p more w.if-letter-eq-LETTER_R.true w.of_u32.result w.of_u32.ensures.0 w.add_all-count.ensures
+          w.zeros_of-zeros.ensures.0 w.zeros_of-zeros.ensures.1)
+      | else-letter-eq-LETTER_K+else-letter-eq-LETTER_R w ↦ rw (w.values-is, w.heads-is, w.next-is, w.widths-is, w.count-is, w.zeros-is)
+          (count_other held p more w.if-letter-eq-LETTER_R.false
+          (read_other _ _ _ _ held p.reading more w.if-letter-eq-LETTER_K.false w.if-letter-eq-LETTER_R.false))
     ]
 
 pub shape_of-values : goal.shape_of-values

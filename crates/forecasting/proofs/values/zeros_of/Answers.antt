@@ -13,8 +13,8 @@ overflow_add-r c = omega (arith, c.loop-i.invariant.few, c.loop-i-test.true)
 pub loop-i-preserved : goal.loop-i-preserved
 loop-i-preserved c =
     elim c.if-row-i-eq0.branch [
-      then-row-i-eq0 w ↦ rw w.r-is (zeros_one c.loop-i.invariant c.loop-i-test.true w.if-row-i-eq0.true)
-    | else-row-i-eq0 w ↦ rw w.r-is (zeros_other c.loop-i.invariant c.loop-i-test.true w.if-row-i-eq0.false)
+      | then-row-i-eq0 w ↦ rw w.r-is (zeros_one c.loop-i.invariant c.loop-i-test.true w.if-row-i-eq0.true)
+      | else-row-i-eq0 w ↦ rw w.r-is (zeros_other c.loop-i.invariant c.loop-i-test.true w.if-row-i-eq0.false)
     ]
 
 pub returns : goal.returns

@@ -13,6 +13,6 @@ loop-r-preserved c =
     let size = c.requires.0 in
     let within : r < length fired = omega arith in
     elim c.if-fired-r-eq1.branch [
-      then-fired-r-eq1 w ↦ (omega arith, omega arith, omega (arith, ones_more r fired within w.if-fired-r-eq1.true))
+      | then-fired-r-eq1 w ↦ (omega arith, omega arith, omega (arith, ones_more r fired within w.if-fired-r-eq1.true))
       | else-fired-r-eq1 w ↦ (omega arith, omega arith, omega (arith, ones_same r fired within w.if-fired-r-eq1.false))
     ]

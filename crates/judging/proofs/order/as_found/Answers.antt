@@ -10,7 +10,7 @@ loop-i-init c = (omega arith, length-replicate {A = ℕ} 512 0, λ j l. absurd (
 
 pub loop-i-preserved : goal.loop-i-preserved
 loop-i-preserved c =
-     in_turn c.loop-i.order c.loop-i.invariant.1 c.loop-i.invariant.2 c.loop-i-test.true c.requires
+    in_turn c.loop-i.order c.loop-i.invariant.1 c.loop-i.invariant.2 c.loop-i-test.true c.requires
 
 pub returns : goal.returns
 returns c = in_turn_all c.loop-i.invariant.1 c.loop-i.invariant.2 c.loop-i-test.false

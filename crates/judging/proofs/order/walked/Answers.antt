@@ -35,10 +35,10 @@ loop-depth-init c =
       t,
       c.loop-root.invariant.1,
       elim c.if-marks-root-eq0.branch [
-        then-marks-root-eq0 j ↦
+        | then-marks-root-eq0 j ↦
             let bare = j.if-marks-root-eq0.true in
             walk_is j.marks-is j.stack-is j.depth-is (pass (enter w c.loop-root.root t bare) (entered w c.loop-root.root t bare))
-      | else-marks-root-eq0 j ↦ walk_is j.marks-is j.stack-is j.depth-is (pass w (is_marked w c.loop-root.root j.if-marks-root-eq0.false))
+        | else-marks-root-eq0 j ↦ walk_is j.marks-is j.stack-is j.depth-is (pass w (is_marked w c.loop-root.root j.if-marks-root-eq0.false))
       ],
     )
 

@@ -47,13 +47,13 @@ pub loop-n-preserved : goal.loop-n-preserved
 loop-n-preserved c =
     let v = c.loop-n.invariant in
     elim c.if-letter-eq-LETTER_K.branch [
-      then-letter-eq-LETTER_K w ↦
+      | then-letter-eq-LETTER_K w ↦
           rw (w.shapes-is, w.index-is, w.ways-is, w.widths-is, w.count-is, w.row-is)
           (read_kind _ _ _ _ c.requires.0 v.0 c.loop-n-test.true w.if-letter-eq-LETTER_K.true, v.1)
-    | else-letter-eq-LETTER_K+then-letter-eq-LETTER_R+in-Count w ↦
+      | else-letter-eq-LETTER_K+then-letter-eq-LETTER_R+in-Count w ↦
           rw (w.shapes-is, w.index-is, w.ways-is, w.widths-is, w.count-is, w.row-is)
           (read_row _ _ _ _ c.requires.0 v.0 c.loop-n-test.true w.if-letter-eq-LETTER_R.true, rw w.in-Count.is at w.find_row.ensures)
-    | else-letter-eq-LETTER_K+else-letter-eq-LETTER_R w ↦
+      | else-letter-eq-LETTER_K+else-letter-eq-LETTER_R w ↦
           rw (w.shapes-is, w.index-is, w.ways-is, w.widths-is, w.count-is, w.row-is)
           (read_other _ _ _ _ c.requires.0 v.0 c.loop-n-test.true w.if-letter-eq-LETTER_K.false w.if-letter-eq-LETTER_R.false, v.1)
     ]

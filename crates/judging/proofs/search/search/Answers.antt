@@ -18,21 +18,19 @@ looked_up : (t : List ℕ) (n : ℕ) {d : List ℕ} → d ≡ digits_in t n → 
 looked_up t n e p = e ∙ ap (λ u. digits_in u n) p ∙ table-rows n
 
 pub returns-in_default : goal.returns-in_default
-returns-in_default c =
-    (
+returns-in_default c = (
   record { all = λ e. search rules; more = λ _. rw c.in_default.is at c.find_rows.ensures },
   λ e. search rules,
 )
 
 pub search-init : goal.search-init
-search-init c =
-     (
-      refl,
-      omega arith,
-      record { fits = c.requires.1; are = c.requires.2 },
-      doing_begun (zeros 256) (rw c.in-Count.is at c.find_rows.ensures) (record { size = refl; zeros = zero_at 256 }),
-      noting_begun c.args.starts.now refl c.requires.8,
-    )
+search-init c = (
+  refl,
+  omega arith,
+  record { fits = c.requires.1; are = c.requires.2 },
+  doing_begun (zeros 256) (rw c.in-Count.is at c.find_rows.ensures) (record { size = refl; zeros = zero_at 256 }),
+  noting_begun c.args.starts.now refl c.requires.8,
+)
 
 pub overflow_cast-shape : goal.overflow_cast-shape
 overflow_cast-shape c = let b = c.search.invariant.3.kept.small _ c.search-test.true in search rules
@@ -80,8 +78,8 @@ note-requires c =
     let up = x.h_low in (
       omega arith,
       elim c.if-index-code-eq0.branch [
-        then-index-code-eq0+else-count-eq512 w ↦ new_there x _ is (w.index-is ∙ w.push.ensures.1)
-      | else-index-code-eq0 w ↦ seen_there x _ is w.if-index-code-eq0.false w.index-is
+        | then-index-code-eq0+else-count-eq512 w ↦ new_there x _ is (w.index-is ∙ w.push.ensures.1)
+        | else-index-code-eq0 w ↦ seen_there x _ is w.if-index-code-eq0.false w.index-is
       ],
     )
 
@@ -93,18 +91,18 @@ loop-h-preserved c =
     let note = c.note.ensures in (
       i.0,
       elim c.if-index-code-eq0.branch [
-        then-index-code-eq0+else-count-eq512 w ↦
+        | then-index-code-eq0+else-count-eq512 w ↦
             let p = w.push.ensures in
             heading_same (heading_push i.1 _ m.ensures t w.if-count-eq512.false w.if-index-code-eq0.true) _ _ _ _
             (w.shapes-is ∙ p.0) (w.index-is ∙ p.1) (w.ways-is ∙ p.2) w.count-is
-      | else-index-code-eq0 w ↦
+        | else-index-code-eq0 w ↦
             heading_same (heading_seen i.1 _ m.ensures t w.if-index-code-eq0.false) _ _ _ _ w.shapes-is w.index-is w.ways-is w.count-is
       ],
       elim c.if-index-code-eq0.branch [
-        then-index-code-eq0+else-count-eq512 w ↦
+        | then-index-code-eq0+else-count-eq512 w ↦
             let p = w.push.ensures in
             noting_new i.1 i.2 _ m.ensures t note w.if-count-eq512.false w.if-index-code-eq0.true (w.shapes-is ∙ p.0) (w.index-is ∙ p.1)
-      | else-index-code-eq0 w ↦ noting_seen i.1 i.2 _ m.ensures t note w.if-index-code-eq0.false w.shapes-is w.index-is
+        | else-index-code-eq0 w ↦ noting_seen i.1 i.2 _ m.ensures t note w.if-index-code-eq0.false w.shapes-is w.index-is
       ],
     )
 

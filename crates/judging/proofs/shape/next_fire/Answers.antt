@@ -29,7 +29,7 @@ loop-q-init c =
 
 pub fires-requires : goal.fires-requires
 fires-requires c =
-     (c.requires.0, c.loop-q-test.true, c.requires.3)
+    (c.requires.0, c.loop-q-test.true, c.requires.3)
 
 pub returns-then-fires : goal.returns-then-fires
 returns-then-fires c =

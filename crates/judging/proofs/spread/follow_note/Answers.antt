@@ -19,9 +19,9 @@ loop-j-preserved c =
       omega arith,
       next c.loop-j.invariant.1
           (elim c.if-place-eq0.branch [
-            then-place-eq0 w ↦
-              arrived w.generations-is w.raises-is w.waiting-is w.last-is (fresh_field b r h a.s t j e w.if-place-eq0.true w.follow_fresh-last.ensures)
+            | then-place-eq0 w ↦
+                arrived w.generations-is w.raises-is w.waiting-is w.last-is (fresh_field b r h a.s t j e w.if-place-eq0.true w.follow_fresh-last.ensures)
             | else-place-eq0 w ↦
-              arrived w.generations-is w.raises-is w.waiting-is w.last-is (carried_field b r h a.s t j e w.if-place-eq0.false w.follow-last.ensures)
+                arrived w.generations-is w.raises-is w.waiting-is w.last-is (carried_field b r h a.s t j e w.if-place-eq0.false w.follow-last.ensures)
           ]),
     )

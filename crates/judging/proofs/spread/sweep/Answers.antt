@@ -12,11 +12,11 @@ loop-i-preserved c =
     let f = c.requires.0.closed.few in (
       omega arith,
       elim c.if-waiting-s-eq1.branch [
-        then-waiting-s-eq1 w ↦
-          passed_is w.generations-is w.raises-is w.waiting-is w.last-is
-          (worked c.loop-i.invariant.1 (each_own c.requires.0.table_fits c.requires.0.closed _ b) (each_split c.requires.0.table_fits c.requires.0.closed _) (omega arith) w.follow_shape-last.ensures)
+        | then-waiting-s-eq1 w ↦
+            passed_is w.generations-is w.raises-is w.waiting-is w.last-is
+            (worked c.loop-i.invariant.1 (each_own c.requires.0.table_fits c.requires.0.closed _ b) (each_split c.requires.0.table_fits c.requires.0.closed _) (omega arith) w.follow_shape-last.ensures)
         | else-waiting-s-eq1 w ↦
-          passed_is w.generations-is w.raises-is w.waiting-is w.last-is (idle c.loop-i.invariant.1 w.if-waiting-s-eq1.false)
+            passed_is w.generations-is w.raises-is w.waiting-is w.last-is (idle c.loop-i.invariant.1 w.if-waiting-s-eq1.false)
       ],
     )
 

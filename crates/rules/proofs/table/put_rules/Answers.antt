@@ -33,7 +33,7 @@ loop-n-preserved c =
     let l = c.loop-n in
     let next : List ℕ → ℕ → Type 0 = λ t k. Filled c.args.lines.now t k (l.n + 1) in
     elim c.if-lines-n-eq-LETTER_B.branch [
-      then-lines-n-eq-LETTER_B w ↦
+      | then-lines-n-eq-LETTER_B w ↦
           subst₂ next (sym w.table-is) (sym w.count-is)
           (filled_rule c.requires.0 l.invariant c.loop-n-test.true w.if-lines-n-eq-LETTER_B.true w.heads_at-heads.ensures w.put_rule.ensures)
       | else-lines-n-eq-LETTER_B w ↦

@@ -55,13 +55,12 @@ returns-then-n-gt4096 c =
     (made_whole (row_made c.args.c.next rule (row_no c.args.rows.now c.args.i)) rule.heads (c.loop-h.h + 1) rows)
 
 pub loop-h-preserved : goal.loop-h-preserved
-loop-h-preserved c =
-     (
-      omega (arith, c.loop-h-test.true),
-      c.if-n-gt4096.false,
-      grown_head c.requires.2 c.args.c.next c.args.i c.requires.4 c.requires.1 c.loop-h.invariant.1 c.loop-h.invariant.2 (there (goal.at.loop-h-preserved c).In-loop-h) c.made-row.ensures
-          c.add-n.ensures (c.requires.0.each c.args.i c.requires.1),
-    )
+loop-h-preserved c = (
+  omega (arith, c.loop-h-test.true),
+  c.if-n-gt4096.false,
+  grown_head c.requires.2 c.args.c.next c.args.i c.requires.4 c.requires.1 c.loop-h.invariant.1 c.loop-h.invariant.2 (there (goal.at.loop-h-preserved c).In-loop-h) c.made-row.ensures
+      c.add-n.ensures (c.requires.0.each c.args.i c.requires.1),
+)
 
 pub returns : goal.returns
 returns c =

@@ -79,13 +79,12 @@ pub bounds-row-k : goal.bounds-row-k
 bounds-row-k c = omega (arith, (width (goal.at.bounds-row-k c).After-rule_byte-width).few, c.loop-k.invariant.1.whole)
 
 pub loop-k-preserved : goal.loop-k-preserved
-loop-k-preserved c =
-     (
-      search rules,
-      part_more c.loop-k.invariant.1 (omega (arith, (width (goal.at.loop-k-preserved c).After-rule_byte-width).few, c.loop-k-test.true))
-          (c.number.ensures ∙ made-number c.requires.1 c.args.h c.requires.2 c.requires.0.packed c.requires.4 c.args.next c.loop-k.k c.rule_byte-mark.result
-          (below (goal.at.loop-k-preserved c).In-loop-k) (mark (goal.at.loop-k-preserved c).After-rule_byte-mark).is),
-    )
+loop-k-preserved c = (
+  search rules,
+  part_more c.loop-k.invariant.1 (omega (arith, (width (goal.at.loop-k-preserved c).After-rule_byte-width).few, c.loop-k-test.true))
+      (c.number.ensures ∙ made-number c.requires.1 c.args.h c.requires.2 c.requires.0.packed c.requires.4 c.args.next c.loop-k.k c.rule_byte-mark.result
+      (below (goal.at.loop-k-preserved c).In-loop-k) (mark (goal.at.loop-k-preserved c).After-rule_byte-mark).is),
+)
 
 pub returns : goal.returns
 returns c =

@@ -53,7 +53,7 @@ loop-i-preserved c =
     let k = c.loop-i.invariant in
     let more = c.loop-i-test.true in
     elim c.if-fires.branch [
-      then-fires+then-find-n w ↦
+      | then-fires+then-find-n w ↦
           counting_as
           (counting_new k more c.requires.2 c.requires.3 (subst (Decides (FiresOn (rule_at a.table.now a.r) (row_no a.rows.now c.loop-i.i))) w.if-fires.true c.fires.ensures) w.find.result w.find.ensures w.if-find-n.true w.bucket-b.result w.bucket-b.ensures.1 w.bucket-b.ensures.0)
           (w.index-is ∙ w.note.ensures) w.n-is

@@ -28,7 +28,7 @@ few c =
     )
 
 room : (c : After-top_heads) → c.loop-r.r < 256
-room c =  omega (arith, c.loop-r-test.true, c.requires.0.few)
+room c = omega (arith, c.loop-r-test.true, c.requires.0.few)
 
 pub loop-r-init : goal.loop-r-init
 loop-r-init c = prepared_none _ _ _ (length-replicate {A = ℕ} 1024 0)

@@ -16,7 +16,7 @@ loop-n-preserved c =
     let sheet = c.requires in
     let at = c.loop-n.invariant in
     elim c.if-lines-n-eq-LETTER_R.branch [
-      then-lines-n-eq-LETTER_R w ↦ largest-row sheet at c.loop-n-test.true w.if-lines-n-eq-LETTER_R.true _ (w.t-is ∙ w.largest_in-t.ensures)
+      | then-lines-n-eq-LETTER_R w ↦ largest-row sheet at c.loop-n-test.true w.if-lines-n-eq-LETTER_R.true _ (w.t-is ∙ w.largest_in-t.ensures)
       | else-lines-n-eq-LETTER_R w ↦ rw w.t-is (largest_other sheet at c.loop-n-test.true w.if-lines-n-eq-LETTER_R.false)
     ]
 

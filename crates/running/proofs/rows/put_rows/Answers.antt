@@ -70,7 +70,7 @@ loop-n-preserved c =
     let more = c.loop-n-test.true in
     let sheet = c.requires.0 in
     elim c.if-letter-eq-LETTER_K.branch [
-      then-letter-eq-LETTER_K w ↦
+      | then-letter-eq-LETTER_K w ↦
           rw (w.widths-is, w.rows-is, w.index-is, w.count-is, w.next-is)
           (put_other sheet p more (λ e. omega (arith, w.if-letter-eq-LETTER_K.true, e)) (read_kind _ _ _ _ sheet p.reading more w.if-letter-eq-LETTER_K.true))
       | else-letter-eq-LETTER_K+then-letter-eq-LETTER_R w ↦

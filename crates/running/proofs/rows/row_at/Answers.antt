@@ -31,7 +31,7 @@ loop-k-preserved c =
     let inside : l.k < length (row_numbers a.lines.now a.n a.width) = omega (arith, size, c.loop-k-test.true) in (
       search rules,
       elim c.if-x-eq0.branch [
-        then-x-eq0 w ↦ filling_zero l.invariant.1 (omega arith) room inside (here ∙ w.if-x-eq0.true) w.x-is w.given-is
+        | then-x-eq0 w ↦ filling_zero l.invariant.1 (omega arith) room inside (here ∙ w.if-x-eq0.true) w.x-is w.given-is
         | else-x-eq0 w ↦ filling_other l.invariant.1 (omega arith) room inside (λ e. w.if-x-eq0.false (sym here ∙ e)) (w.x-is ∙ sym here) w.given-is
       ],
     )

@@ -10,15 +10,14 @@ bucket-b-requires c =
     (record_in c.requires.0 (c.requires.1.ready c.args.r c.requires.2).fits c.args.r c.args.i c.requires.2 c.requires.3 c.requires.4, (c.requires.1.ready c.args.r c.requires.2).fits, c.requires.2, c.requires.0.stored.mixing)
 
 pub find-requires : goal.find-requires
-find-requires c =
-     (
-      record_in c.requires.0 (c.requires.1.ready c.args.r c.requires.2).fits c.args.r c.args.i c.requires.2 c.requires.3 c.requires.4,
-      records_in c.requires.0 (c.requires.1.ready c.args.r c.requires.2).fits c.args.r c.args.i c.requires.2 c.requires.3 c.requires.4,
-      (c.requires.1.ready c.args.r c.requires.2).fits,
-      c.requires.2,
-      c.bucket-b.ensures.1,
-      record { by = c.args.c.by; noted = noted_room c.requires.0 (c.requires.1.ready c.args.r c.requires.2).fits c.args.r c.args.i c.requires.2 c.requires.3 c.requires.4; is = c.bucket-b.ensures.0 },
-    )
+find-requires c = (
+  record_in c.requires.0 (c.requires.1.ready c.args.r c.requires.2).fits c.args.r c.args.i c.requires.2 c.requires.3 c.requires.4,
+  records_in c.requires.0 (c.requires.1.ready c.args.r c.requires.2).fits c.args.r c.args.i c.requires.2 c.requires.3 c.requires.4,
+  (c.requires.1.ready c.args.r c.requires.2).fits,
+  c.requires.2,
+  c.bucket-b.ensures.1,
+  record { by = c.args.c.by; noted = noted_room c.requires.0 (c.requires.1.ready c.args.r c.requires.2).fits c.args.r c.args.i c.requires.2 c.requires.3 c.requires.4; is = c.bucket-b.ensures.0 },
+)
 
 pub returns-then-find-pairs : goal.returns-then-find-pairs
 returns-then-find-pairs c =

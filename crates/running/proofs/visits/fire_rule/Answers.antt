@@ -23,14 +23,13 @@ bounds-fresh-r-2 c =
     omega (arith, c.requires.1.size, c.requires.2, (c.requires.1.ready c.args.r c.requires.2).fits.few)
 
 pub fire-n-requires : goal.fire-n-requires
-fire-n-requires c =
-     (
-      c.requires.0.stored,
-      c.requires.3,
-      subst (Ready c.args.table.now c.args.rules c.args.r) (sym c.of_u8-low.ensures.0) (c.requires.1.ready c.args.r c.requires.2),
-      omega (arith, c.requires.0.low, c.requires.0.noted.chain.small),
-      c.requires.4,
-    )
+fire-n-requires c = (
+  c.requires.0.stored,
+  c.requires.3,
+  subst (Ready c.args.table.now c.args.rules c.args.r) (sym c.of_u8-low.ensures.0) (c.requires.1.ready c.args.r c.requires.2),
+  omega (arith, c.requires.0.low, c.requires.0.noted.chain.small),
+  c.requires.4,
+)
 
 pub returns : goal.returns
 returns c =

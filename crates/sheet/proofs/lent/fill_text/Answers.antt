@@ -19,7 +19,7 @@ putting u =
 
 pub loop-n-init : goal.loop-n-init
 loop-n-init c =
-     fill-begun c.args.lines.now c.args.text.now (replicate 65 0) c.requires refl (no_width 65)
+    fill-begun c.args.lines.now c.args.text.now (replicate 65 0) c.requires refl (no_width 65)
 
 pub numbers_at-numbers-requires : goal.numbers_at-numbers-requires
 numbers_at-numbers-requires c =

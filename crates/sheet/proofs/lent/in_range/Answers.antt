@@ -34,7 +34,7 @@ loop-i-preserved c =
       omega arith,
       c.loop-i.invariant.2
           ∙ (elim c.if-i-fields.branch [
-            then-i-fields+else-n-gt99999999 w ↦ within c.args.fields c.loop-i.i c.args.numbers k w.if-i-fields.true w.if-n-gt99999999.false
+            | then-i-fields+else-n-gt99999999 w ↦ within c.args.fields c.loop-i.i c.args.numbers k w.if-i-fields.true w.if-n-gt99999999.false
             | else-i-fields+else-n-ne0 w ↦ unused c.args.fields c.loop-i.i c.args.numbers k w.if-i-fields.false w.if-n-ne0.false
           ]),
     )

@@ -66,8 +66,7 @@ returns-then-not-in_range c =
 
 pub admit-requires : goal.admit-requires
 admit-requires c =
-    let u = (goal.at.admit-requires c).After-used-fields in
-    (
+    let u = (goal.at.admit-requires c).After-used-fields in (
       (table u).size,
       subst FieldsFit
           (sym (form_says_one_to_one c.take_apart-form.result (form_of (get_or (numbers u) 0 0) (c.used-fields.result + 1)) c.take_apart-form.ensures))
@@ -77,7 +76,7 @@ admit-requires c =
 
 pub kept_after-seen-requires : goal.kept_after-seen-requires
 kept_after-seen-requires c =
-     c.admit.ensures.room c.in-Yes.mark c.in-Yes.is
+    c.admit.ensures.room c.in-Yes.mark c.in-Yes.is
 
 pub returns-in-No : goal.returns-in-No
 returns-in-No c =

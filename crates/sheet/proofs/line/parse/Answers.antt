@@ -43,19 +43,18 @@ returns-in-Unknown c =
     (parsed_unknown line _ _ (form_wrong line (cc (form_is, c.wide-letter.ensures, c.in-Unknown.is))) refl, ap length c.requires)
 
 pub loop-c-init : goal.loop-c-init
-loop-c-init c =
-     (
-      record {
-        count = refl;
-        size = c.if-size-columns.false;
-        end = c.if-line-size-ne10.false;
-        letter_is = c.wide-letter.ensures;
-        form_is = form_says_one_to_one c.take_apart-form.result (form_of c.wide-letter.result _) c.take_apart-form.ensures;
-        known_is = known_but_unknown c.take_apart-form.result c.in_default.not-Unknown;
-      },
-      search rules,
-      none_filled _ _ _ c.requires,
-    )
+loop-c-init c = (
+  record {
+    count = refl;
+    size = c.if-size-columns.false;
+    end = c.if-line-size-ne10.false;
+    letter_is = c.wide-letter.ensures;
+    form_is = form_says_one_to_one c.take_apart-form.result (form_of c.wide-letter.result _) c.take_apart-form.ensures;
+    known_is = known_but_unknown c.take_apart-form.result c.in_default.not-Unknown;
+  },
+  search rules,
+  none_filled _ _ _ c.requires,
+)
 
 pub bounds-numbers-c : goal.bounds-numbers-c
 bounds-numbers-c c = omega (arith, whole_columns _ _ _ _ c.loop-c.invariant.0)

@@ -24,16 +24,15 @@ pub loop-at-init : goal.loop-at-init
 loop-at-init c = begun c.args.text.now c.args.numbers.now c.nothing_seen-seen.result c.nothing_seen-seen.ensures c.requires
 
 pub admit-requires : goal.admit-requires
-admit-requires c =
-     (
-      c.loop-at.invariant.keeps.table.size,
-      parsed_fit (line_in c.line_from-line.result.now) c.parse-form.result _ c.parse-form.ensures.0,
-      c.parse-form.ensures.1,
-    )
+admit-requires c = (
+  c.loop-at.invariant.keeps.table.size,
+  parsed_fit (line_in c.line_from-line.result.now) c.parse-form.result _ c.parse-form.ensures.0,
+  c.parse-form.ensures.1,
+)
 
 pub kept_after-seen-requires : goal.kept_after-seen-requires
 kept_after-seen-requires c =
-     c.admit.ensures.room c.in-Yes.mark c.in-Yes.is
+    c.admit.ensures.room c.in-Yes.mark c.in-Yes.is
 
 pub refusal_at-requires : goal.refusal_at-requires
 refusal_at-requires c = let h = refused-here (goal.at.refusal_at-requires c).In-No in (h.1, h.2)
@@ -46,12 +45,11 @@ returns-in-No c =
     scan_refused c.loop-at.invariant _ _ _ c.refusal_at.ensures (refused-here (goal.at.returns-in-No c).In-No).0
 
 pub put_numbers-requires : goal.put_numbers-requires
-put_numbers-requires c =
-     (
-      line_fits c.loop-at.invariant c.loop-at-test.true c.line_from-line.ensures.bytes c.parse-form.ensures.0
-          c.admit.ensures c.in-Yes.mark c.in-Yes.is,
-      c.parse-form.ensures.1,
-    )
+put_numbers-requires c = (
+  line_fits c.loop-at.invariant c.loop-at-test.true c.line_from-line.ensures.bytes c.parse-form.ensures.0
+      c.admit.ensures c.in-Yes.mark c.in-Yes.is,
+  c.parse-form.ensures.1,
+)
 
 pub overflow_add-at : goal.overflow_add-at
 overflow_add-at c = let text = c.args.text in let i = c.loop-at.invariant in search rules
