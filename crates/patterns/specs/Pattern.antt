@@ -2,7 +2,7 @@
 use Rattle.std.specs.Prelude.{◌≡◌, refl, cond, ◌||◌, List, [], ◌∷◌, ◌++◌, map, ℕ, zero, suc, ◌*◌, max, eqb, leb, ltb, length, get_or, take, drop}
 use Rattle.std.proofs.lemmas.Bool.{false≢true}
 use Rattle.std.proofs.Math.Decide.{ℕ_discrete}
-use Rattle.patterns.specs.Lists.{Numbered, numbered}
+use Rattle.patterns.specs.Lists.{numbered}
 use Rattle.patterns.specs.Outcome.{Outcome, good, refused, padded}
 use Rattle.patterns.specs.declared.PatternAnswer.{PatternAnswer}
 use Rattle.patterns.specs.declared.PatternAnswer.TheVariants.{Number, FieldCount}

@@ -1,6 +1,5 @@
 -- `read_column` meets its contract. The loop's invariant: the first i places are n's. The measure is what is left of the eight. Assumes nothing.
 use mathlib.Core.Path.{ap, sym, subst}
-use mathlib.Core.Logic.{⊎_elim}
 use Prim.Native.Nat.{ℕ, ◌+◌}
 use native.Mathlib.Omega.{arith}
 use Rattle.columns.specs.Column.{in_form}
