@@ -20,6 +20,6 @@ overflow_cast-said c = omega (arith, c.refusal_numbers-said.ensures.0, small c.a
 
 pub returns : goal.returns
 returns c =
-    let e = c.not-Carried.ensures in
+    let e = c.not_carried.ensures in
     let numbers = c.refusal_numbers-said.ensures in
     (e.0 ∙ numbers.0, e.1 ∙ numbers.1, e.2, e.3)

@@ -7,7 +7,7 @@ use Rattle.followup.proofs.followup_carry_v1.Goals as goal
 
 pub returns-then-records-lt32768 : goal.returns-then-records-lt32768
 returns-then-records-lt32768 c =
-    carries_short c.args.lines.now c.args.records.now c.not-Carried.result (λ i. omega (arith, c.type_inv.records i)) (omega (arith, c.if-records-lt32768.true)) c.not-Carried.ensures
+    carries_short c.args.lines.now c.args.records.now c.not_carried.result (λ i. omega (arith, c.type_inv.records i)) (omega (arith, c.if-records-lt32768.true)) c.not_carried.ensures
 
 pub judge_first-first-requires : goal.judge_first-first-requires
 judge_first-first-requires c = (omega (arith, c.room_for_lines-many.ensures, c.count_of-held.ensures), c.room_for_places-places.ensures)

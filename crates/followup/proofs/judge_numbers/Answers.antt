@@ -25,5 +25,5 @@ encode_u16-requires c =
 
 pub returns : goal.returns
 returns c =
-    judges c.args.numbers.now c.args.steps.now (λ i. omega (arith, c.type_inv.steps i)) c.requires _ _ (judge_says c.judge.result) c.judge_reply-said.result
+    judges c.args.numbers.now c.args.steps.now (λ i. omega (arith, c.slice_known-1.given i)) c.requires _ _ (judge_says c.judge.result) c.judge_reply-said.result
     (omega (arith, c.room_for_steps-written.ensures)) c.judge.ensures c.judge_reply-said.ensures c.encode_u16.ensures
