@@ -5,21 +5,21 @@ use Rattle.explaining.proofs.PutLaws.{puts_one, puts_last, puts_length}
 use Rattle.explaining.proofs.number.+put.Goals as goal
 
 pub bounds-text-at : goal.bounds-text-at
-bounds-text-at t c = omega (arith, length-decimal_one c.args.n c.if-n-lt10.true)
+bounds-text-at t c = omega (arith, length-decimal_one c.args.n (omega arith))
 
 pub returns-then-n-lt10 : goal.returns-then-n-lt10
 returns-then-n-lt10 t c =
-    puts_one c.args.text.now c.args.at c.args.n (omega (arith, length-decimal_one c.args.n c.if-n-lt10.true)) c.if-n-lt10.true
+    puts_one c.args.text.now c.args.at c.args.n (omega (arith, length-decimal_one c.args.n (omega arith))) (omega arith)
 
 pub put-last-requires : goal.put-last-requires
-put-last-requires t c = let more = length-decimal_more c.args.n c.if-n-lt10.false in (omega arith, omega arith)
+put-last-requires t c = let more = length-decimal_more c.args.n (omega arith) in (omega arith, omega arith)
 
 pub bounds-text-last : goal.bounds-text-last
 bounds-text-last t c =
-    let more = length-decimal_more c.args.n c.if-n-lt10.false in
+    let more = length-decimal_more c.args.n (omega arith) in
     let end = c.put-last.ensures.end in
     let same = puts_length (omega arith) c.put-last.ensures in
     omega arith
 
 pub returns : goal.returns
-returns t c = puts_last c.args.n c.requires c.if-n-lt10.false c.put-last.ensures
+returns t c = puts_last c.args.n c.requires (omega arith) c.put-last.ensures
