@@ -161,7 +161,8 @@ fn no_heads() -> [u16; 4096]
     [0u16; 4096]
 }
 
-// The first t. The first 0 is among the different numbers; each further one is a value more.
+// The first t. The first 0 is among the different numbers; each further one is a value more. Its arrays have a frame of their own, so that they are not there while the sheet is judged.
+#[inline(never)]
 pub(crate) fn count_values(lines: &[u32]) -> usize
     requires { SheetHeld lines.now }
     ensures { (result ≡ first_t (lines_in lines.now)) × (result ≤ 12288) }
