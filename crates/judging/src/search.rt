@@ -150,10 +150,10 @@ pub(crate) fn search(
     // Where the notes of each shape begin; those of the last end where the next would begin.
     starts: &mut [u32; 513],
 ) -> Found
-    requires { SheetHeld lines.now × TableFits table.now rules × (table_rules table.now rules ≡ rules_in lines.now) × (length shapes.old ≡ 512) × Clear index.now 17792 × (length ways.old ≡ 512) × ByKind table.now rules kinds.now
-        × (length notes.old ≤ 8192) × (length starts.now ≡ 513) }
-    ensures { Searched (rules_in lines.now) (rows_in lines.now) shapes.new index.exit.now ways.new result.fired result.count result.full
-        × (result.full ≡ false → Noted table.now rules shapes.new index.exit.now notes.new starts.exit.now result.count) }
+    requires { SheetHeld lines.now × TableFits table.now rules × (table_rules table.now rules ≡ rules_in lines.now) × (length shapes.old ≡ 512) × Clear index.old 17792 × (length ways.old ≡ 512) × ByKind table.now rules kinds.now
+        × (length notes.old ≤ 8192) × (length starts.old ≡ 513) }
+    ensures { Searched (rules_in lines.now) (rows_in lines.now) shapes.new index.new ways.new result.fired result.count result.full
+        × (result.full ≡ false → Noted table.now rules shapes.new index.new notes.new starts.new result.count) }
 {
     let mut fired = [0u8; 256];
     let mut full = false;
