@@ -58,6 +58,7 @@ CONTRACTS = [
     ("outlook/specs/Outlook.antt", "what the forecasting program prints"),
     ("explanation/specs/Explanation.antt", "what the explaining program prints"),
     ("console/specs/Input.antt", "a program's input: how much of the buffer it fills"),
+    ("console/specs/Run.antt", "what a program's report of its input answers"),
     ("followup/specs/Bytes.antt", "numbers as bytes"),
     ("followup/specs/Reply.antt", "the entry points for C"),
 ]

@@ -1,13 +1,12 @@
 -- Numbers that are equal up to the cap give sums, products and polynomials that are equal up to the cap: a cap may be put in anywhere. Assumes nothing.
 use mathlib.Core.Path.{◌≡◌, refl, sym, ◌∙◌, ap}
-use mathlib.Core.List.{List, [], ◌∷◌}
-use Prim.Native.Nat.{ℕ, zero, suc, ◌+◌, ◌*◌, ◌≤◌, ◌<◌}
-use native.Mathlib.Nat.{mul-zero, mul_comm, le-mul_of_pos_right, mul-le-mul}
+use mathlib.Core.List.{List, [], ◌∷◌, ◌++◌, append-nil, append_assoc}
+use Prim.Native.Nat.{ℕ, zero, suc, ◌+◌, ◌*◌, ◌≤◌}
+use native.Mathlib.Nat.{mul-zero, mul_comm, le-mul_of_pos_right}
 use native.Mathlib.Decide.{ℕ_discrete}
 use native.Mathlib.Omega.{arith}
-use lib.ListN.{length, get_or, drop}
-use lib.Seq.{drop-cons}
-use Rattle.arithmetic.specs.Capped.{cap, capped, polynomial}
+use lib.ListN.{length}
+use Rattle.arithmetic.specs.Capped.{capped, polynomial}
 
 -- A cap over a cap.
 pub capped_once : (a : ℕ) → capped (capped a) ≡ capped a
@@ -37,23 +36,27 @@ polynomial_alike (c ∷ cs) t u h =
     plus_alike c c (t * polynomial cs t) (u * polynomial cs u) refl
     (times_alike t u (polynomial cs t) (polynomial cs u) h (polynomial_alike cs t u h))
 
--- One step of the code: from the value of the coefficients from place k on, that of those from the place before.
-pub polynomial_before : (cs : List ℕ) (t j k sum : ℕ) → k ≡ suc j → k ≤ length cs → sum ≡ capped (polynomial (drop k cs) t)
-    → capped (get_or cs j 0 + capped (t * sum)) ≡ capped (polynomial (drop j cs) t)
-polynomial_before cs t j k sum next l e =
-    let rest : ℕ = polynomial (drop (suc j) cs) t in
-    let same : sum ≡ capped rest = e ∙ ap (λ (n : ℕ). capped (polynomial (drop n cs) t)) next in
-    plus_alike (get_or cs j 0) (get_or cs j 0) (capped (t * sum)) (t * rest) refl
-    (capped_once (t * sum) ∙ times_alike t t sum rest refl (ap capped same ∙ capped_once rest))
-    ∙ ap (λ (ds : List ℕ). capped (polynomial ds t)) (sym (drop-cons cs j 0 (omega arith)))
+-- The value at t of the last coefficients, where the ones before them are left.
+pub record Valued (cs left : List ℕ) (t sum : ℕ) : Type 0 where
+  pub passed : List ℕ
+  pub whole : left ++ passed ≡ cs
+  pub value : sum ≡ capped (polynomial passed t)
 
--- A product by a number that has passed the cap, and one of two numbers that have not.
-pub product_past : (a b : ℕ) → (a ≡ 0 → ⊥) → cap ≤ b → capped (a * b) ≡ cap
-product_past a b some past =
-    let p : b ≤ b * a = le-mul_of_pos_right b (omega arith) in
-    omega (arith, mul_comm a b)
+pub valued_none : (cs left : List ℕ) (t : ℕ) → left ≡ cs → Valued cs left t 0
+valued_none cs left t e = record { passed = []; whole = append-nil left ∙ e; value = refl }
 
-pub product_fits : (a b : ℕ) → a ≤ cap → b < cap → a * b < 18446744073709551616
-product_fits a b g h =
-    let q : b ≤ 4294967295 = omega arith in
-    omega (arith, mul-le-mul g q)
+-- One coefficient more.
+pub valued_more : {cs left less : List ℕ} (x t sum : ℕ) {more : ℕ} → Valued cs left t sum → left ≡ less ++ (x ∷ []) → more ≡ capped (x + capped (t * sum)) → Valued cs less t more
+valued_more {less = less} x t sum v e m =
+    let rest : ℕ = polynomial v.passed t in
+    record {
+      passed = x ∷ v.passed;
+      whole = sym (append_assoc less (x ∷ []) v.passed) ∙ ap (λ (l : List ℕ). l ++ v.passed) (sym e) ∙ v.whole;
+      value =
+          m ∙ plus_alike x x (capped (t * sum)) (t * rest) refl
+          (capped_once (t * sum) ∙ times_alike t t sum rest refl (ap capped v.value ∙ capped_once rest));
+    }
+
+pub valued_all : {cs left : List ℕ} {t sum : ℕ} → Valued cs left t sum → length left ≡ 0 → sum ≡ capped (polynomial cs t)
+valued_all {left = []} {t = t} v e = v.value ∙ ap (λ (l : List ℕ). capped (polynomial l t)) v.whole
+valued_all {left = y ∷ left} v e = absurd (omega arith)

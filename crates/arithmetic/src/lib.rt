@@ -35,40 +35,14 @@ pub fn share(part: u32, whole: u32) -> usize
 pub fn plus_capped(a: u64, b: u64) -> u64
     ensures { result ≡ capped (a + b) }
 {
-    if CAP <= a {
-        return CAP;
-    }
-    if CAP <= b {
-        return CAP;
-    }
-    let sum = a + b;
-    if CAP <= sum {
-        return CAP;
-    }
-    sum
+    a.saturating_add(b).min(CAP)
 }
 
-// A product that stops at the cap. Two numbers below it are multiplied within 64 bits; the product of two caps would not fit.
+// A product that stops at the cap.
 pub fn times_capped(a: u64, b: u64) -> u64
     ensures { result ≡ capped (a * b) }
 {
-    if a == 0 {
-        return 0;
-    }
-    if b == 0 {
-        return 0;
-    }
-    if CAP <= a {
-        return CAP;
-    }
-    if CAP <= b {
-        return CAP;
-    }
-    let product = a * b;
-    if CAP <= product {
-        return CAP;
-    }
-    product
+    a.saturating_mul(b).min(CAP)
 }
 
 // The value of a polynomial at t, stopped at the cap. The coefficient of power 0 comes first.
@@ -76,10 +50,8 @@ pub fn polynomial(coefficients: &[u64], t: u64) -> u64
     ensures { result ≡ capped (polynomial_of coefficients.now t) }
 {
     let mut sum: u64 = 0;
-    let mut k = coefficients.len();
-    while 0 < k {
-        k -= 1;
-        sum = plus_capped(coefficients[k], times_capped(t, sum));
+    for &coefficient in coefficients.iter().rev() {
+        sum = plus_capped(coefficient, times_capped(t, sum));
     }
     sum
 }

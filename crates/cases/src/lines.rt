@@ -3,15 +3,13 @@
 // Whether the walker hands out the text's lines one after the other, each up to its byte 10, and then stays where it is.
 pub(crate) fn walks_right(text: &[u8]) -> bool {
     let mut at: usize = 0;
-    let mut i: usize = 0;
-    while i < text.len() {
-        if text[i] == 10 {
+    for (i, &byte) in text.iter().enumerate() {
+        if byte == b'\n' {
             at = walker::moved_from(text, at);
             if at != i + 1 {
                 return false;
             }
         }
-        i += 1;
     }
     walker::moved_from(text, at) == at
 }

@@ -1,18 +1,19 @@
 -- The laws of columns: a column has nine bytes, a number's column is read as the number, and nothing else is read as it. Assumes nothing.
 use mathlib.Core.Path.{◌≡◌, refl, sym, ap, ◌∙◌}
 use mathlib.Core.Bool.{Bool, true, false, cond, ◌&&◌, and-eq-true_iff, false≢true}
-use mathlib.Core.List.{List, [], ◌∷◌, ◌++◌}
+use mathlib.Core.List.{List, [], ◌∷◌, ◌++◌, append_assoc}
 use mathlib.Core.Option.{Option, none, some}
 use Prim.Native.Nat.{ℕ, zero, suc, ◌+◌, ◌-◌, ◌*◌, ◌/◌, ◌%◌, ◌^◌, ◌≤◌, ◌<◌}
 use native.Mathlib.Nat.{add-sub_cancel_left, div-add-mod, pow-suc}
 use native.Mathlib.Numerals.{add-one}
 use native.Mathlib.Omega.{arith}
 use lib.Dec.{eqb, leb}
-use lib.ListN.{length, get_or, set, replicate, length-append, length-set}
+use lib.ListN.{length, get_or, set, replicate, drop, length-append, length-set, drop_of_length-le}
+use Rattle.std.proofs.lemmas.List.{drop-set}
 use lib.Seq.{take_all, paste, paste-zero, paste-suc}
 use borrow.Author.Tests.{le-leb, lt-leb, eq-eqb, eqb-true, leb-true}
 use Rattle.patterns.specs.Outcome.{good, refused}
-use Rattle.columns.specs.Column.{largest_number, place_byte, places, column, column_for, put, column_put, decimal, same, number_in, in_form}
+use Rattle.columns.specs.Column.{largest_number, place_byte, places, justified, column, column_for, put, column_put, decimal, same, number_in, in_form}
 
 pub length-places : (w n : ℕ) → length (places w n) ≡ w
 length-places zero n = refl
@@ -121,20 +122,63 @@ column_for_read n = by_size (leb n largest_number) refl
     by_size true e = ap in_form (number_in-column n (leb-true n largest_number e))
     by_size false e = ap in_form blanks_read
 
+-- ---- a number right-justified
+
+-- Right-justifying n: the places before `at` are to show `rest`; those from it on show the other digits.
+pub record Justifying (w n at rest : ℕ) (bytes : List ℕ) : Type 0 where
+  pub upto : at < w
+  pub size : length bytes ≡ w
+  pub shown : places at rest ++ drop at bytes ≡ justified w n
+
+pub length-justified : (w n : ℕ) → length (justified w n) ≡ w
+length-justified zero n = refl
+length-justified (suc w) n = simp (length-append, length-places w) (omega arith)
+
+pub justifying_begun : (w n : ℕ) (bytes : List ℕ) → 1 ≤ w → length bytes ≡ w → Justifying w n (w - 1) (n / 10) (set bytes (w - 1) (48 + n % 10))
+justifying_begun w n bytes h long =
+    let least : suc (w - 1) ≡ w = omega arith in
+    let last : drop (w - 1 + 1) bytes ≡ [] = drop_of_length-le bytes {i = w - 1 + 1} (omega arith) in
+    record {
+      upto = omega arith;
+      size = length-set bytes (w - 1) (48 + n % 10) ∙ long;
+      shown =
+          ap (λ (l : List ℕ). places (w - 1) (n / 10) ++ l) (drop-set bytes (w - 1) (48 + n % 10) (omega arith) ∙ ap (λ (l : List ℕ). (48 + n % 10) ∷ l) last)
+          ∙ ap (λ (v : ℕ). justified v n) least;
+    }
+
+pub justifying_more : {w n at rest : ℕ} {bytes : List ℕ} → Justifying w n at rest bytes → 0 < at
+    → Justifying w n (at - 1) (rest / 10) (set bytes (at - 1) (place_byte rest))
+justifying_more {w} {n} {at} {rest} {bytes} j h =
+    let here : at - 1 < length bytes = omega (arith, j.size, j.upto) in
+    let least : at ≡ suc (at - 1) = omega arith in
+    let next : at - 1 + 1 ≡ at = omega arith in
+    record {
+      upto = omega (arith, j.upto);
+      size = length-set bytes (at - 1) (place_byte rest) ∙ j.size;
+      shown =
+          ap (λ (l : List ℕ). places (at - 1) (rest / 10) ++ l) (drop-set bytes (at - 1) (place_byte rest) here ∙ ap (λ (k : ℕ). place_byte rest ∷ drop k bytes) next)
+          ∙ sym (append_assoc (places (at - 1) (rest / 10)) (place_byte rest ∷ []) (drop at bytes))
+          ∙ ap (λ (k : ℕ). places k rest ++ drop at bytes) (sym least)
+          ∙ j.shown;
+    }
+
+pub justifying_done : {w n at rest : ℕ} {bytes : List ℕ} → Justifying w n at rest bytes → at ≡ 0 → bytes ≡ justified w n
+justifying_done {rest = rest} {bytes = bytes} j e = ap (λ (k : ℕ). places k rest ++ drop k bytes) (sym e) ∙ j.shown
+
 -- ---- a column put into a text
 
 pub column_put_short : (text : List ℕ) (at n : ℕ) → length text < at + 9 → text ≡ column_put text at n
 unfolding column_put
 column_put_short text at n h = rw (lt-leb (at + 9) (length text) h)
 
-column_put_nine : (text : List ℕ) (at n : ℕ) → at + 9 ≤ length text → column_put text at n ≡ paste text at (column_for n) 9
-unfolding column_put
-column_put_nine text at n h = rw (le-leb (at + 9) (length text) h, take_all 9 (column_for n) (omega (arith, length-column_for n)), length-column_for n)
-
 -- For a number that has a column.
 pub column_put-fits : (text : List ℕ) (at n : ℕ) → at + 9 ≤ length text → n ≤ largest_number → column_put text at n ≡ put text at (column n)
 unfolding column_put
 column_put-fits text at n h fits = rw (le-leb (at + 9) (length text) h, column_for-fits n fits)
+
+column_put_nine : (text : List ℕ) (at n : ℕ) → at + 9 ≤ length text → column_put text at n ≡ paste text at (column_for n) 9
+unfolding column_put
+column_put_nine text at n h = rw (le-leb (at + 9) (length text) h, take_all 9 (column_for n) (omega (arith, length-column_for n)), length-column_for n)
 
 -- Putting it: i of the nine bytes are in.
 pub record Putting (text : List ℕ) (at n : ℕ) (bytes after : List ℕ) (i : ℕ) : Type 0 where

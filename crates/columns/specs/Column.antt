@@ -1,9 +1,7 @@
 -- A number and its column: nine places, the number right-justified, blanks before it, no leading zero. Assumes nothing.
-use Rattle.std.specs.Prelude.{Bool, true, false, cond, ◌&&◌, List, [], ◌∷◌, ◌++◌, ℕ, zero, suc, ◌+◌, ◌-◌, ◌*◌, ◌/◌, ◌%◌, eqb, leb, length, replicate, take, drop}
+use Rattle.std.specs.Prelude.{Option as RustOption, Some, None, Bool, true, false, cond, ◌&&◌, List, [], ◌∷◌, ◌++◌, ℕ, zero, suc, ◌+◌, ◌-◌, ◌*◌, ◌/◌, ◌%◌, eqb, leb, length, replicate, take, drop}
 use Rattle.std.proofs.Math.Option.{Option, none, some}
 use Rattle.patterns.specs.Outcome.{Outcome, good, refused}
-use Rattle.columns.specs.declared.Number.{Number}
-use Rattle.columns.specs.declared.Number.TheVariants.{Is, NotOne}
 
 -- The largest number. It has eight digits, so a column's first place is blank.
 abbrev pub largest_number : ℕ
@@ -18,6 +16,11 @@ place_byte (suc n) = 48 + (suc n % 10)
 abbrev pub places : ℕ → ℕ → List ℕ
 places zero n = []
 places (suc w) n = places w (n / 10) ++ (place_byte n ∷ [])
+
+-- The digits of n right-justified in so many places. The last place holds a digit, 0 too.
+abbrev pub justified : ℕ → ℕ → List ℕ
+justified zero n = []
+justified (suc w) n = places w (n / 10) ++ ((48 + (n % 10)) ∷ [])
 
 -- The column of n, a number up to the largest. Its last place holds a digit, 0 too.
 unfoldable pub column : ℕ → List ℕ
@@ -62,6 +65,6 @@ in_form none = refused 2 0
 in_form (some a) = good a
 
 -- Document 01's numbers for each answer.
-abbrev pub number_says : Number → Outcome ℕ
-number_says (Is n) = good n
-number_says NotOne = refused 2 0
+abbrev pub number_says : RustOption ℕ → Outcome ℕ
+number_says (Some n) = good n
+number_says None = refused 2 0

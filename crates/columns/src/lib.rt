@@ -1,16 +1,8 @@
 // Columns: the nine bytes that hold a number.
 #![tactic(auto)]
 
-ghost use Rattle.std.specs.Prelude.{◌≡◌, ◌+◌, ◌≤◌, length, take, drop};
-ghost use Rattle.columns.specs.Column.{place_byte, column as columnOf, wide_column, column_for, column_put, in_form, number_in, number_says};
-
-// What nine bytes are read as.
-#[derive(Drop)]
-pub enum Number {
-    Is(u32),
-    // They are no number's column.
-    NotOne,
-}
+ghost use Rattle.std.specs.Prelude.{◌≡◌, ◌≤◌, length, take, drop};
+ghost use Rattle.columns.specs.Column.{place_byte, justified, wide_column, column_for, column_put, in_form, number_in, number_says};
 
 // The byte at a place that is not the last, where `rest` is the number without the digits to the right of the place.
 fn place(rest: u32) -> u8
@@ -22,62 +14,26 @@ fn place(rest: u32) -> u8
     48 + (rest % 10) as u8
 }
 
-// The digits of `n` right-justified in nine places, blanks before them.
-fn digits(n: u32) -> [u8; 9]
-    ensures { result ≡ columnOf n }
+// The digits of `n` right-justified in N places, blanks before them. With a way out at the first blank it is longer code.
+fn justified<const N: usize>(n: u32) -> [u8; N]
+    requires { 1 ≤ N }
+    ensures { result ≡ justified N n }
 {
-    let n1 = n / 10;
-    let n2 = n1 / 10;
-    let n3 = n2 / 10;
-    let n4 = n3 / 10;
-    let n5 = n4 / 10;
-    let n6 = n5 / 10;
-    let n7 = n6 / 10;
-    let n8 = n7 / 10;
-    let last = 48 + (n % 10) as u8;
-    [
-        place(n8),
-        place(n7),
-        place(n6),
-        place(n5),
-        place(n4),
-        place(n3),
-        place(n2),
-        place(n1),
-        last,
-    ]
+    let mut bytes = [b' '; N];
+    bytes[N - 1] = 48 + (n % 10) as u8;
+    let mut rest = n / 10;
+    for at in (0..N - 1).rev() {
+        bytes[at] = place(rest);
+        rest /= 10;
+    }
+    bytes
 }
 
 // The digits of `n` right-justified in twelve places, blanks before them. A u32 has up to ten digits.
 pub fn wide_column(n: u32) -> [u8; 12]
     ensures { result ≡ wide_column n }
 {
-    let m1 = n / 10;
-    let m2 = m1 / 10;
-    let m3 = m2 / 10;
-    let m4 = m3 / 10;
-    let m5 = m4 / 10;
-    let m6 = m5 / 10;
-    let m7 = m6 / 10;
-    let m8 = m7 / 10;
-    let m9 = m8 / 10;
-    let m10 = m9 / 10;
-    let m11 = m10 / 10;
-    let ones = 48 + (n % 10) as u8;
-    [
-        place(m11),
-        place(m10),
-        place(m9),
-        place(m8),
-        place(m7),
-        place(m6),
-        place(m5),
-        place(m4),
-        place(m3),
-        place(m2),
-        place(m1),
-        ones,
-    ]
+    justified(n)
 }
 
 // The column of `n`; nine blanks, which are no number's column, where `n` is over 99,999,999.
@@ -87,82 +43,66 @@ pub fn column(n: u32) -> [u8; 9]
     if 99999999 < n {
         return [b' '; 9];
     }
-    digits(n)
+    justified(n)
 }
 
 // Puts the nine bytes of `column(n)` into a text at `at`. Where there is no room for nine, it changes nothing.
 pub fn put(text: &mut [u8], at: usize, n: u32)
     ensures { text.new ≡ column_put text.old at n }
 {
-    if text.len() < 9 {
-        return;
-    }
-    if text.len() - 9 < at {
+    if text.len() < 9 || text.len() - 9 < at {
         return;
     }
     let bytes = column(n);
-    let mut i: usize = 0;
-    while i < 9 {
+    // By copy_from_slice it takes some ten instructions more.
+    for i in 0..9 {
         text[at + i] = bytes[i];
-        i += 1;
     }
 }
 
-fn wide(b: u8) -> u32
-    ensures { result ≡ b }
+// The number whose column these nine bytes are; None where they are no number's column.
+fn read_column(bytes: &[u8]) -> Option<u32>
+    requires { length bytes.now ≡ 9 }
+    ensures { number_says result ≡ in_form (number_in bytes.now) }
 {
-    b as u32
-}
-
-// The number whose column the nine bytes at `at` are, where there are nine.
-fn read_column(s: &[u8], at: usize) -> Number
-    requires { at + 9 ≤ length s.now }
-    ensures { number_says result ≡ in_form (number_in (take 9 (drop at s.now))) }
-{
-    if s[at] != b' ' {
-        return Number::NotOne;
+    if bytes[0] != b' ' {
+        return None;
     }
     let mut n: u32 = 0;
-    let mut i: usize = 1;
-    while i < 8 {
-        let b = s[at + i];
+    for &b in &bytes[1..8] {
         if b == b' ' {
             if n != 0 {
-                return Number::NotOne;
+                return None;
             }
         } else {
             if b < 48 {
-                return Number::NotOne;
+                return None;
             }
             if 57 < b {
-                return Number::NotOne;
+                return None;
             }
-            n = 10 * n + wide(b - 48);
+            n = 10 * n + u32::from(b - 48);
             if n == 0 {
-                return Number::NotOne;
+                return None;
             }
         }
-        i += 1;
     }
-    let last = s[at + 8];
+    let last = bytes[8];
     if last < 48 {
-        return Number::NotOne;
+        return None;
     }
     if 57 < last {
-        return Number::NotOne;
+        return None;
     }
-    Number::Is(10 * n + wide(last - 48))
+    Some(10 * n + u32::from(last - 48))
 }
 
-// The number whose column the nine bytes at `at` are.
-pub fn number_at(s: &[u8], at: usize) -> Number
+// The number whose column the nine bytes at `at` are; None where they are no number's column, or fewer than nine.
+pub fn number_at(s: &[u8], at: usize) -> Option<u32>
     ensures { number_says result ≡ in_form (number_in (take 9 (drop at s.now))) }
 {
-    if s.len() < 9 {
-        return Number::NotOne;
+    if s.len() < 9 || s.len() - 9 < at {
+        return None;
     }
-    if s.len() - 9 < at {
-        return Number::NotOne;
-    }
-    read_column(s, at)
+    read_column(&s[at..at + 9])
 }

@@ -4,32 +4,15 @@
 // An argument that is not known, or an input that cannot be read to its end, gives a message on standard error and no text.
 #![tactic(auto)]
 
-ghost use Rattle.std.specs.Prelude.{◌≡◌, true, ◌*◌, ◌≤◌, length, take};
+ghost use Rattle.std.specs.Prelude.{◌≡◌, true, ◌*◌, ◌^◌, ◌<◌, length, take, IsSome};
 ghost use Rattle.console.specs.Input.{InBuffer};
-ghost use Rattle.console.specs.Inner.Reads.{Fits};
+ghost use Rattle.console.specs.Run.{Reported};
 
 use std::env::{Env, FillError};
 use std::fmt::{Display, Formatter};
 use std::io::Read;
 use std::rt::Files;
 use std::{fmt, fs, io};
-
-// What a program gets as its input.
-#[derive(Drop)]
-pub enum Input {
-    // So many bytes, the whole input or as much as the buffer holds.
-    Text(usize),
-    // No text: the usage was asked for, or a message was written to standard error.
-    Nothing,
-}
-
-// What one read brings.
-#[derive(Drop)]
-pub(crate) enum Got {
-    Some(usize),
-    Ended,
-    Failed(io::Error),
-}
 
 // Bytes as a message shows them: what is no UTF-8 among them is shown as U+FFFD.
 #[derive(Drop)]
@@ -52,59 +35,49 @@ fn fail(rt: &impl Eprint, what: &[u8], why: impl Display + Drop) {
     let _ = eprintln!(rt; "{}: {why}", Shown(what));
 }
 
-// Reads once into the buffer after its first `done` bytes.
-fn read_more(reader: &mut impl Read, buffer: &mut [u8], done: usize) -> Got
-    requires { done ≤ length buffer.old }
-    ensures { Fits result done (length buffer.old) }
-{
-    match reader.read(&mut buffer[done..]) {
-        Ok(0) => Got::Ended,
-        Ok(count) => Got::Some(count),
-        Err(error) => Got::Failed(error),
-    }
-}
-
-// Reads until the buffer is full or the input ends. Where a read fails, `name` and the reason are written to standard error.
-fn read_all(rt: &impl Eprint, reader: &mut impl Read, name: &[u8], buffer: &mut [u8]) -> Input
+// Reads until the buffer is full or the input ends, and answers how many bytes that are. Where a read fails, `name` and the reason are written to standard error.
+fn read_all(
+    rt: &impl Eprint,
+    reader: &mut impl Read,
+    name: &[u8],
+    buffer: &mut [u8],
+) -> Option<usize>
     ensures { InBuffer result buffer.new }
 {
     let mut done: usize = 0;
+    // A `while`, for it waits for input: how much each read brings is not known before.
     while done < buffer.len() {
-        match read_more(reader, buffer, done) {
-            Got::Some(count) => {
-                done += count;
-            }
-            Got::Ended => {
-                return Input::Text(done);
-            }
-            Got::Failed(error) => {
+        match reader.read(&mut buffer[done..]) {
+            Ok(0) => break,
+            Ok(count) => done += count,
+            Err(error) => {
                 fail(rt, name, error);
-                return Input::Nothing;
+                return None;
             }
         }
     }
-    Input::Text(done)
+    Some(done)
 }
 
-fn read_standard(rt: &(impl Eprint + io::Input), buffer: &mut [u8]) -> Input
+fn read_standard(rt: &(impl Eprint + io::Input), buffer: &mut [u8]) -> Option<usize>
     ensures { InBuffer result buffer.new }
 {
     read_all(rt, &mut rt.reader(), b"standard input", buffer)
 }
 
 // Reads the file of that name. A name that is no UTF-8 names no file that can be opened here.
-fn read_file(rt: &(impl Eprint + Files), path: &[u8], buffer: &mut [u8]) -> Input
+fn read_file(rt: &(impl Eprint + Files), path: &[u8], buffer: &mut [u8]) -> Option<usize>
     ensures { InBuffer result buffer.new }
 {
     let Ok(name) = str::from_utf8(path) else {
         fail(rt, path, "a file's name must be UTF-8");
-        return Input::Nothing;
+        return None;
     };
     match fs::open(rt, name) {
         Ok(mut file) => read_all(rt, &mut file, path, buffer),
         Err(error) => {
             fail(rt, path, error);
-            Input::Nothing
+            None
         }
     }
 }
@@ -114,36 +87,27 @@ fn complain(rt: &impl Eprint, what: &[u8], usage: &[u8]) {
     let _ = eprint!(rt; "{}{}", Shown(what), Shown(usage));
 }
 
-fn is_same(a: &[u8], b: &[u8]) -> bool {
-    a == b
-}
-
-// Whether an argument begins as options do.
-fn is_option(argument: &[u8]) -> bool {
-    argument.first() == Some(&b'-')
-}
-
 // Reads as the argument asks: `-` is standard input, `-h` and `--help` ask for the usage, anything else that does not begin with `-` names a file.
 fn read_as(
     rt: &(impl Print + Eprint + io::Input + Files),
     argument: &[u8],
     usage: &[u8],
     buffer: &mut [u8],
-) -> Input
+) -> Option<usize>
     ensures { InBuffer result buffer.new }
 {
-    if is_same(argument, b"-") {
-        return read_standard(rt, buffer);
+    match argument {
+        b"-" => read_standard(rt, buffer),
+        b"-h" | b"--help" => {
+            print(rt, usage);
+            None
+        }
+        [b'-', ..] => {
+            complain(rt, b"unknown option\n", usage);
+            None
+        }
+        _ => read_file(rt, argument, buffer),
     }
-    if is_same(argument, b"-h") || is_same(argument, b"--help") {
-        print(rt, usage);
-        return Input::Nothing;
-    }
-    if is_option(argument) {
-        complain(rt, b"unknown option\n", usage);
-        return Input::Nothing;
-    }
-    read_file(rt, argument, buffer)
 }
 
 // Reads the one argument. It has 4,096 bytes at most, as a path does.
@@ -151,7 +115,7 @@ fn read_argument(
     rt: &(impl Print + Eprint + io::Input + Files + Env),
     usage: &[u8],
     buffer: &mut [u8],
-) -> Input
+) -> Option<usize>
     ensures { InBuffer result buffer.new }
 {
     let mut argument = [0; 4096];
@@ -159,7 +123,7 @@ fn read_argument(
         Ok(size) => read_as(rt, &argument[..size], usage, buffer),
         Err(_) => {
             fail(rt, b"argument", "File name too long");
-            Input::Nothing
+            None
         }
     }
 }
@@ -174,7 +138,7 @@ pub fn read_input(
     rt: &(impl Print + Eprint + io::Input + Files + Env),
     usage: &[u8],
     buffer: &mut [u8],
-) -> Input
+) -> Option<usize>
     ensures { InBuffer result buffer.new }
 {
     if !has_argument(rt, 1) {
@@ -184,10 +148,16 @@ pub fn read_input(
         return read_argument(rt, usage, buffer);
     }
     complain(rt, b"more than one argument\n", usage);
-    Input::Nothing
+    None
 }
 
-fn write_out(rt: &(impl Print + Eprint), text: &[u8]) -> bool {
+// Writes a text to standard output. Where it cannot be written, the reason is written to standard error; an empty text needs no writing. Says whether it was written.
+pub fn print(rt: &(impl Print + Eprint), text: &[u8]) -> bool
+    ensures { length text.now ≡ 0 → result ≡ true }
+{
+    if text.is_empty() {
+        return true;
+    }
     match rt.write_all(text) {
         Ok(()) => true,
         Err(error) => {
@@ -197,32 +167,37 @@ fn write_out(rt: &(impl Print + Eprint), text: &[u8]) -> bool {
     }
 }
 
-// Writes a text to standard output. Where it cannot be written, the reason is written to standard error; an empty text needs no writing. Says whether it was written.
-pub fn print(rt: &(impl Print + Eprint), text: &[u8]) -> bool
-    ensures { length text.now ≡ 0 → result ≡ true }
+// The first `size` of the items; all of them where there are fewer.
+pub fn front<T>(items: &[T], size: usize) -> &[T]
+    ensures { result.now ≡ take size items.now }
 {
-    if text.len() == 0 {
-        return true;
-    }
-    write_out(rt, text)
-}
-
-// The first `size` bytes of a text; all of it where it has fewer.
-pub fn front<'a>(text: &'a [u8], size: usize) -> &'a [u8]
-    ensures { result.now ≡ take size text.now }
-{
-    if size < text.len() {
-        return &text[..size];
-    }
-    text
+    items.get(..size).unwrap_or(items)
 }
 
 // The first `count` lines, eight numbers each; all of them where there are fewer.
-pub fn front_lines<'a>(lines: &'a [u32], count: usize) -> &'a [u32]
+pub fn front_lines(lines: &[u32], count: usize) -> &[u32]
     ensures { result.now ≡ take (8 * count) lines.now }
 {
-    if count <= lines.len() / 8 {
-        return &lines[..8 * count];
+    front(lines, count.saturating_mul(8))
+}
+
+// A program that answers its input with a text: reads the input, lets `report` put the answer to it into room for `OUT` bytes, and prints that. An input of
+// more than `IN` bytes is seen by its first `IN`. Says how many bytes the answer has; None where there was no input to work on, or `report` had no answer.
+pub fn run<const IN: usize, const OUT: usize, R: FnOnce(&[u8], &mut [u8]) -> Option<usize>>(
+    rt: &(impl Print + Eprint + io::Input + Files + Env),
+    usage: &[u8],
+    report: R,
+) -> Option<usize>
+    requires memory { (IN < 2 ^ 63) × (OUT < 2 ^ 63) }
+    requires callable { (text : _) (room : _) → length room.now ≡ OUT → R.pre report text room }
+    ensures { IsSome result → Reported (R.post report) IN OUT result }
+{
+    let mut input = [0; IN];
+    let size = read_input(rt, usage, &mut input)?;
+    let mut output = [0; OUT];
+    let answer = report(front(&input, size), &mut output);
+    if let Some(size) = answer {
+        print(rt, front(&output, size));
     }
-    lines
+    answer
 }

@@ -5,6 +5,7 @@ use mathlib.Core.List.{List, [], ◌∷◌, ◌++◌}
 use Prim.Native.Nat.{ℕ, ◌+◌, ◌*◌, ◌≤◌}
 use native.Mathlib.Nat.{zero-add}
 use native.Mathlib.Omega.{arith}
+use Rattle.std.proofs.Common.{Result, Ok, Err}
 use lib.ListN.{length, take, drop, length-append, take-append-drop}
 use Rattle.columns.specs.Column.{put}
 use Rattle.chase.specs.Lists.{All}
@@ -18,15 +19,12 @@ use Rattle.rules.specs.Table.{good_lines, SheetHeld, rules_in}
 use Rattle.judging.specs.Answer.{verdict_of, judge_says}
 use Rattle.judging.specs.declared.JudgeRefusal.{JudgeRefusal}
 use Rattle.judging.specs.declared.Figures.{Figures}
-use Rattle.judging.specs.declared.JudgeAnswer.{JudgeAnswer}
-use Rattle.judging.specs.declared.JudgeAnswer.TheVariants.{Settles, Endless, Refused}
+use Rattle.judging.specs.declared.Verdict.TheVariants.{Settles, Endless}
 use Rattle.sentences.specs.Sentence.{told, text_of}
 use Rattle.sentences.specs.Explain.{Explains, Refuses, wrong, many, settles, short, ExplainMeets}
 use Rattle.sentences.proofs.Naming.{Named, answer_named}
 use Rattle.explaining.specs.Answer.{explain_says, explain_refusal_number, explain_refusal_line}
 use Rattle.explaining.specs.declared.ExplainRefusal.{ExplainRefusal}
-use Rattle.explaining.specs.declared.ExplainAnswer.{ExplainAnswer}
-use Rattle.explaining.specs.declared.ExplainAnswer.TheVariants.{Bytes as SomeBytes, Refused as NotExplained}
 use Rattle.explaining.specs.Inner.Text.{SameRefusal, NamedTo, text_to, TextWritten}
 use Rattle.explaining.proofs.TextLaws.{text_is, named_to}
 
@@ -41,29 +39,26 @@ all_both : {A : Type 0} (P : A → Type 0) (xs ys : List A) → All P xs → All
 all_both P [] ys p q = q
 all_both P (x ∷ xs) ys p q = (p.0, all_both P xs ys p.1 q)
 
-module _ (numbers room now : List ℕ) (answer : JudgeAnswer) (size : length room ≡ 20480) (meets : JudgeMeets shape_limit numbers room (judge_says answer) now) where
-  meets_as : (other : JudgeAnswer) → answer ≡ other → JudgeMeets shape_limit numbers room (judge_says other) now
-  meets_as other e = subst (λ (a : JudgeAnswer). JudgeMeets shape_limit numbers room (judge_says a) now) e meets
-
+module _ (numbers room now : List ℕ) (size : length room ≡ 20480) where
   -- "Settles": 24.
-  pub settled : (before : List ℕ) (f : Figures) → answer ≡ Settles f → Refuses shape_limit numbers before 24 0
-  settled before f e =
-      let r : JudgeRight shape_limit numbers room (verdict_of 1 f) now = (meets_as (Settles f) e).1 in
+  pub settled : (before : List ℕ) (f : Figures) → JudgeMeets shape_limit numbers room (judge_says (Ok (Settles f))) now → Refuses shape_limit numbers before 24 0
+  settled before f meets =
+      let r : JudgeRight shape_limit numbers room (verdict_of 1 f) now = meets.1 in
       let b = (verdict_settles shape_limit numbers room (verdict_of 1 f) now r.lines r r.sheet).0 refl in
       settles r.lines (record { sheet = r.sheet; shapes = f.shapes; counted = r.shapes; within = r.within }) b.0 b.1
 
   -- A refusal: the same.
-  pub refused : (before : List ℕ) (j : JudgeRefusal) → answer ≡ Refused j → (r : ExplainRefusal) → SameRefusal j r
+  pub refused : (before : List ℕ) (j : JudgeRefusal) → JudgeMeets shape_limit numbers room (judge_says (Err j)) now → (r : ExplainRefusal) → SameRefusal j r
       → Refuses shape_limit numbers before (explain_refusal_number r) (explain_refusal_line r)
-  refused before j e r same =
-      let (enough, so) = refused_as before size (meets_as (Refused j) e).0 in
+  refused before j meets r same =
+      let (enough, so) = refused_as before size meets.0 in
       let (number, line) = same enough in
       rw (number, line) so
 
   -- "Endless": what is told.
-  module _ (f : Figures) (e : answer ≡ Endless f) where
+  module _ (f : Figures) (meets : JudgeMeets shape_limit numbers room (judge_says (Ok (Endless f))) now) where
     abbrev right : JudgeRight shape_limit numbers room (verdict_of 2 f) now
-    right = (meets_as (Endless f) e).1
+    right = meets.1
 
     pub steps_few : f.trail + f.turns ≤ 4096
     steps_few = right.room
@@ -125,13 +120,13 @@ module _ (numbers room now : List ℕ) (answer : JudgeAnswer) (size : length roo
 
     explains : Explains shape_limit numbers text
     explains =
-        record { lent = room; verdict = verdict_of 2 f; steps = now; meets = meets_as (Endless f) e; endless = refl; text_is = is_text }
+        record { lent = room; verdict = verdict_of 2 f; steps = now; meets = meets; endless = refl; text_is = is_text }
 
     front : (before : List ℕ) → put before 0 text ≡ text ++ drop (length text) before
     front before = ap (λ (k : ℕ). text ++ drop k before) (zero-add (length text))
 
-    pub explained_so : (before after : List ℕ) (w : ExplainAnswer) → TextWritten text before w after → ExplainMeets shape_limit numbers before (explain_says w) after
-    explained_so before after (SomeBytes n) (count, fits, stands) =
+    pub explained_so : (before after : List ℕ) (w : Result ℕ ExplainRefusal) → TextWritten text before w after → ExplainMeets shape_limit numbers before (explain_says w) after
+    explained_so before after (Ok n) (count, fits, stands) =
         record { text = text; explains = explains; size = count; fits = fits; stands = stands ∙ front before }
-    explained_so before after (NotExplained r) (is, less, kept) =
+    explained_so before after (Err r) (is, less, kept) =
         subst (λ (r : ExplainRefusal). Refuses shape_limit numbers before (explain_refusal_number r) (explain_refusal_line r) × (after ≡ before)) (sym is) (short text explains less, kept)

@@ -1,10 +1,10 @@
 -- The laws of putting bytes into lent text, one piece after another. Assumes nothing.
 use mathlib.Core.Path.{◌≡◌, refl, ap, ◌∙◌}
-use mathlib.Core.Bool.{Bool}
+use mathlib.Core.Bool.{Bool, true, false, cond, ◌&&◌}
 use mathlib.Core.List.{List, [], ◌∷◌, ◌++◌}
 use Prim.Native.Nat.{ℕ, ◌+◌, ◌/◌, ◌%◌, ◌≤◌, ◌<◌}
 use native.Mathlib.Omega.{arith}
-use borrow.Author.Tests.{eq-eqb, ne_eqb}
+use lib.Dec.{eqb}
 use lib.ListN.{length, set, take, drop, length-append}
 use lib.Seq.{paste, take-length, sets-eq}
 use Rattle.sheet.proofs.PutLaws.{length-put, put_more}
@@ -46,18 +46,18 @@ puts_last {t} {u} {at} {m} n room large p =
     let same = puts_length (omega arith) p in
     rw (decimal_more n large) (puts_then (omega arith) p (puts_byte u m (48 + n % 10) (omega arith)))
 
--- The cases of a step's manner, as the code asks.
-pub manner_fresh : (from to fresh : ℕ) → (fresh ≡ 0 → ⊥) → manner from to fresh ≡ bytes ", fresh"
-manner_fresh from to fresh h = rw (ne_eqb fresh 0 h)
+-- How long the words at the end of a sentence are.
+pub manner_few : (from to fresh : ℕ) → length (manner from to fresh) ≤ 10
+manner_few from to fresh = go (eqb fresh 0) (eqb from 0 && eqb to 0)
+  where
+    go : (given at_all : Bool) → length (cond given (cond at_all (bytes ", reaching") (bytes ", carried")) (bytes ", fresh")) ≤ 10
+    go true true = omega arith
+    go true false = omega arith
+    go false at_all = omega arith
 
-pub manner_from : (from to fresh : ℕ) → fresh ≡ 0 → (from ≡ 0 → ⊥) → manner from to fresh ≡ bytes ", carried"
-manner_from from to fresh e h = rw (eq-eqb fresh 0 e, ne_eqb from 0 h)
-
-pub manner_to : (from to fresh : ℕ) → fresh ≡ 0 → from ≡ 0 → (to ≡ 0 → ⊥) → manner from to fresh ≡ bytes ", carried"
-manner_to from to fresh e f h = rw (eq-eqb fresh 0 e, eq-eqb from 0 f, ne_eqb to 0 h)
-
-pub manner_reaching : (from to fresh : ℕ) → fresh ≡ 0 → from ≡ 0 → to ≡ 0 → manner from to fresh ≡ bytes ", reaching"
-manner_reaching from to fresh e f g = rw (eq-eqb fresh 0 e, eq-eqb from 0 f, eq-eqb to 0 g)
+pub place_few : (in_loop : Bool) → length (place in_loop) ≤ 9
+place_few true = omega arith
+place_few false = omega arith
 
 -- A part that fits after what is put fits into the text that it is put into.
 pub next_fits : {t u : List ℕ} {at m : ℕ} {xs : List ℕ} (ys : List ℕ) → at + length xs + length ys ≤ length t → Puts t at xs m u → m + length ys ≤ length u

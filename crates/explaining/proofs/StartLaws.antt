@@ -4,7 +4,7 @@ use mathlib.Core.Bool.{Bool, true, false, cond}
 use mathlib.Core.List.{List, [], ◌∷◌}
 use mathlib.Core.Logic.{by_cases}
 use mathlib.Core.Option.{Option, some, none-ne-some, some-injective}
-use Prim.Native.Nat.{ℕ, zero, suc, ◌+◌, ◌-◌, ◌*◌, ◌≤◌, ◌<◌}
+use Prim.Native.Nat.{ℕ, zero, suc, ◌+◌, ◌-◌, ◌*◌, ◌/◌, ◌≤◌, ◌<◌}
 use native.Mathlib.Decide.{dec_lt}
 use native.Mathlib.Numerals.{add-one}
 use native.Mathlib.Omega.{arith}
@@ -19,6 +19,12 @@ use Rattle.rules.proofs.SheetLaws.{no_line, line_no, rules_few, held_lines, size
 use Rattle.sentences.specs.Sentence.{body_kind, head_kind, made_kind}
 use Rattle.sentences.specs.Inner.Naming.{Names}
 use Rattle.explaining.specs.Inner.Text.{KindsAre, Starts}
+
+-- ---- lines
+
+-- Where all lines are counted none is left.
+pub line_over : {numbers : List ℕ} {n count : ℕ} → SheetHeld numbers → count ≡ length numbers / 8 → count ≤ n → length numbers ≤ 8 * n
+line_over held is h = omega (arith, size_held held)
 
 -- ---- lists
 

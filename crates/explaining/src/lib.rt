@@ -4,7 +4,6 @@
 mod number;
 mod sentence;
 mod text;
-mod wide;
 
 ghost use Rattle.std.specs.Prelude.{◌≡◌, length};
 ghost use Rattle.chase.specs.Judge.{shape_limit};
@@ -12,10 +11,11 @@ ghost use Rattle.sentences.specs.Explain.{ExplainMeets};
 ghost use Rattle.explaining.specs.Answer.{explain_says, explain_refusal_number, explain_refusal_line};
 ghost use Rattle.explaining.specs.Inner.Text.{SameRefusal};
 
-use judging::{JudgeAnswer, JudgeRefusal};
+use judging::{JudgeRefusal, Verdict};
+use sheet::RefusalNumbers;
 
 // Why nothing is explained.
-#[derive(Drop)]
+#[derive(Clone, Copy)]
 pub enum ExplainRefusal {
     // Lent lines that are no sheet, with the first wrong line.
     LineWrong(usize),
@@ -27,67 +27,47 @@ pub enum ExplainRefusal {
     TextShort,
 }
 
-// A refusal in the paper's numbers; line 0 where none is named.
-#[derive(Drop)]
-pub struct ExplainRefusalNumbers {
-    pub number: usize,
-    pub line: usize,
-}
+// A refusal of judging as one of explaining. Steps enough are lent, so the first is never given.
+impl From<JudgeRefusal> for ExplainRefusal {
+    ghost from_gives = { SameRefusal };
 
-#[derive(Drop)]
-pub enum ExplainAnswer {
-    // The sentences stand in the lent text and have so many bytes.
-    Bytes(usize),
-    Refused(ExplainRefusal),
-}
-
-// Writes the sentences of an endless sheet into the lent text. A good call changes the bytes that it counts and nothing else; a refusal changes nothing.
-pub fn explain(lines: &[u32], text: &mut [u8]) -> ExplainAnswer
-    ensures { ExplainMeets shape_limit lines.now text.old (explain_says result) text.new }
-{
-    let mut steps = no_steps();
-    match judging::judge(lines, &mut steps) {
-        JudgeAnswer::Settles(_) => ExplainAnswer::Refused(ExplainRefusal::SheetSettles),
-        JudgeAnswer::Refused(refusal) => ExplainAnswer::Refused(judge_refused(refusal)),
-        JudgeAnswer::Endless(f) => text::write(lines, &steps, f.trail, f.trail + f.turns, text),
+    fn from(refusal: JudgeRefusal) -> ExplainRefusal {
+        match refusal {
+            JudgeRefusal::StepsShort => ExplainRefusal::LineWrong(0),
+            JudgeRefusal::LineWrong(line) => ExplainRefusal::LineWrong(line),
+            JudgeRefusal::ShapesOver => ExplainRefusal::ShapesOver,
+        }
     }
 }
 
-// The number and the line of a refusal.
-pub fn refusal_numbers(refusal: ExplainRefusal) -> ExplainRefusalNumbers
+// Writes the sentences of an endless sheet into the lent text and answers how many bytes they have. A good call changes the bytes that it counts and nothing else; a refusal changes nothing.
+pub fn explain(lines: &[u32], text: &mut [u8]) -> Result<usize, ExplainRefusal>
+    ensures { ExplainMeets shape_limit lines.now text.old (explain_says result) text.new }
+{
+    let mut steps = [0u16; 20480];
+    match judging::judge(lines, &mut steps)? {
+        Verdict::Settles(_) => Err(ExplainRefusal::SheetSettles),
+        Verdict::Endless(f) => text::write(lines, &steps, f.trail, f.trail + f.turns, text),
+    }
+}
+
+// The paper's number and the line of a refusal; line 0 where none is named.
+pub fn refusal_numbers(refusal: ExplainRefusal) -> RefusalNumbers
     ensures { (result.number ≡ explain_refusal_number refusal) × (result.line ≡ explain_refusal_line refusal) }
 {
     match refusal {
-        ExplainRefusal::LineWrong(line) => ExplainRefusalNumbers { number: 8, line },
-        ExplainRefusal::ShapesOver => ExplainRefusalNumbers {
+        ExplainRefusal::LineWrong(line) => RefusalNumbers { number: 8, line },
+        ExplainRefusal::ShapesOver => RefusalNumbers {
             number: 11,
             line: 0,
         },
-        ExplainRefusal::SheetSettles => ExplainRefusalNumbers {
+        ExplainRefusal::SheetSettles => RefusalNumbers {
             number: 24,
             line: 0,
         },
-        ExplainRefusal::TextShort => ExplainRefusalNumbers {
+        ExplainRefusal::TextShort => RefusalNumbers {
             number: 25,
             line: 0,
         },
-    }
-}
-
-// Room for 4,096 steps.
-fn no_steps() -> [u16; 20480]
-    ensures { length result ≡ 20480 }
-{
-    [0; 20480]
-}
-
-// A refusal of judging as one of explaining. Steps enough are lent, so the first is never given.
-fn judge_refused(refusal: JudgeRefusal) -> ExplainRefusal
-    ensures { SameRefusal refusal result }
-{
-    match refusal {
-        JudgeRefusal::StepsShort => ExplainRefusal::LineWrong(0),
-        JudgeRefusal::LineWrong(line) => ExplainRefusal::LineWrong(line),
-        JudgeRefusal::ShapesOver => ExplainRefusal::ShapesOver,
     }
 }

@@ -7,13 +7,10 @@ ghost use Rattle.explaining.specs.Inner.Puts.{Puts};
 pub(crate) fn size(n: u32) -> usize
     ensures { (result ≡ length (decimal n)) × (result ≤ 10) }
 {
-    let mut size: usize = 1;
-    let mut rest = n;
-    while 10 <= rest {
-        rest /= 10;
-        size += 1;
+    if n == 0 {
+        return 1;
     }
-    size
+    n.ilog10() as usize + 1
 }
 
 // Puts `n` at `at` and answers where it ends.

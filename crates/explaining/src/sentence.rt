@@ -1,14 +1,14 @@
 // One sentence, from its numbers.
 ghost use Rattle.std.specs.Prelude.{◌≡◌, ◌++◌, ◌+◌, ◌≤◌, length};
 ghost use Rattle.sentences.specs.Decimal.{decimal};
-ghost use Rattle.sentences.specs.Sentence.{manner, place};
+ghost use Rattle.sentences.specs.Sentence.{manner as manner_of, place as place_of};
 ghost use Rattle.explaining.specs.Inner.Puts.{Puts};
 ghost use Rattle.explaining.specs.Inner.Text.{sentence_for};
 
 use crate::number;
 
 // The numbers of a sentence: those of a step, the kinds of its rule's B line and H line, and whether it is the loop's.
-#[derive(Drop)]
+#[derive(Clone, Copy)]
 pub struct Sentence {
     pub rule: u32,
     pub head: u32,
@@ -25,12 +25,9 @@ fn put_word(text: &mut [u8], at: usize, word: &[u8]) -> usize
     requires { at + length word.now ≤ length text.old }
     ensures { Puts text.old at word.now result text.new }
 {
-    let mut i: usize = 0;
-    while i < word.len() {
-        text[at + i] = word[i];
-        i += 1;
-    }
-    at + i
+    let end = at + word.len();
+    text[at..end].copy_from_slice(word);
+    end
 }
 
 // Puts words and a number after them.
@@ -42,56 +39,24 @@ fn put_part(text: &mut [u8], at: usize, words: &[u8], n: u32) -> usize
     number::put(text, next, n)
 }
 
-fn size_of_manner(from: u32, to: u32, fresh: u32) -> usize
-    ensures { (result ≡ length (manner from to fresh)) × (result ≤ 10) }
+// Whether a step is fresh, carried or reaching.
+fn manner(from: u32, to: u32, fresh: u32) -> &'static [u8]
+    ensures { result.now ≡ manner_of from to fresh }
 {
     if fresh != 0 {
-        return 7;
+        return b", fresh";
     }
-    if from != 0 {
-        return 9;
+    if from != 0 || to != 0 {
+        return b", carried";
     }
-    if to != 0 {
-        return 9;
-    }
-    10
+    b", reaching"
 }
 
-// Puts whether a step is fresh, carried or reaching.
-fn put_manner(text: &mut [u8], at: usize, from: u32, to: u32, fresh: u32) -> usize
-    requires { at + length (manner from to fresh) ≤ length text.old }
-    ensures { Puts text.old at (manner from to fresh) result text.new }
+// Whether a step is the loop's or the trail's, and the sentence's end.
+fn place(in_loop: bool) -> &'static [u8]
+    ensures { result.now ≡ place_of in_loop }
 {
-    if fresh != 0 {
-        return put_word(text, at, b", fresh");
-    }
-    if from != 0 {
-        return put_word(text, at, b", carried");
-    }
-    if to != 0 {
-        return put_word(text, at, b", carried");
-    }
-    put_word(text, at, b", reaching")
-}
-
-fn size_of_place(in_loop: bool) -> usize
-    ensures { (result ≡ length (place in_loop)) × (result ≤ 9) }
-{
-    if in_loop {
-        return 8;
-    }
-    9
-}
-
-// Puts whether a step is the loop's or the trail's, and the sentence's end.
-fn put_place(text: &mut [u8], at: usize, in_loop: bool) -> usize
-    requires { at + length (place in_loop) ≤ length text.old }
-    ensures { Puts text.old at (place in_loop) result text.new }
-{
-    if in_loop {
-        return put_word(text, at, b", loop.\n");
-    }
-    put_word(text, at, b", trail.\n")
+    if in_loop { b", loop.\n" } else { b", trail.\n" }
 }
 
 // How many bytes a sentence has; the words before its numbers have 44.
@@ -103,7 +68,7 @@ pub(crate) fn size(s: Sentence) -> usize
         + number::size(s.from)
         + number::size(s.made)
         + number::size(s.to);
-    line + fields + size_of_manner(s.from, s.to, s.fresh) + size_of_place(s.in_loop)
+    line + fields + manner(s.from, s.to, s.fresh).len() + place(s.in_loop).len()
 }
 
 // Puts a sentence at `at` and answers where it ends.
@@ -117,6 +82,6 @@ pub(crate) fn put(text: &mut [u8], at: usize, s: Sentence) -> usize
     let from = put_part(text, body, b" field ", s.from);
     let made = put_part(text, from, b" to kind ", s.made);
     let to = put_part(text, made, b" field ", s.to);
-    let manner = put_manner(text, to, s.from, s.to, s.fresh);
-    put_place(text, manner, s.in_loop)
+    let end = put_word(text, to, manner(s.from, s.to, s.fresh));
+    put_word(text, end, place(s.in_loop))
 }

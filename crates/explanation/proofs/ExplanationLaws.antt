@@ -1,18 +1,16 @@
 -- What stands at the front of the output is right to print. Assumes nothing.
 use mathlib.Core.Path.{◌≡◌, refl, sym, ap, ◌∙◌}
 use mathlib.Core.List.{List, ◌++◌}
-use Prim.Native.Nat.{ℕ, ◌*◌, ◌≤◌}
+use Prim.Native.Nat.{ℕ, ◌≤◌}
 use native.Mathlib.Nat.{zero-add}
 use native.Mathlib.Omega.{arith}
-use lib.ListN.{length, take, drop}
-use Rattle.sheet.specs.Read.{ReadMeets}
-use Rattle.sheet.specs.declared.ReadAnswer.TheVariants.{Lines}
+use lib.ListN.{length, drop}
 use Rattle.chase.specs.Judge.{shape_limit}
 use Rattle.sentences.specs.Explain.{Refuses, Right}
-use Rattle.report.specs.Inner.Promises.{SheetLent, Filled}
+use Rattle.report.specs.Report.{Filled}
+use Rattle.report.specs.Inner.Promises.{SheetLent}
 use Rattle.report.proofs.Bounds.{sheet_unrefused}
-use Rattle.report.proofs.Reports.{read_good}
-use Rattle.explanation.specs.Explanation.{Tells, Prints}
+use Rattle.explanation.specs.Explanation.{Tells}
 
 -- Sentences that explaining puts are right to print.
 pub sentences-filled : (numbers before : List ℕ) (n : ℕ) (after : List ℕ) → Right shape_limit numbers before n after → Filled (Tells numbers) before n after
@@ -36,8 +34,3 @@ refusal-line numbers before n k sheet (Refuses.wrong line e) = absurd (sheet_unr
 refusal-line numbers before n k sheet (Refuses.many lines e m) = refl
 refusal-line numbers before n k sheet (Refuses.settles lines t d b) = refl
 refusal-line numbers before n k sheet (Refuses.short text e less) = refl
-
-pub read_prints : (text before after : List ℕ) → length before ≡ 13104 → (n : ℕ) → ReadMeets text before (Lines n) after
-    → (p : List ℕ) → Tells (take (8 * n) after) p → Prints text p
-read_prints text before after room n m p t =
-    let g = read_good text before after room n m in Prints.read g.lines g.read (rw g.held_is at t)

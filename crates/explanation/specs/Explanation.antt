@@ -1,11 +1,11 @@
 -- What the explaining program prints for a text. Assumes nothing.
-use Rattle.std.specs.Prelude.{◌≡◌, List, ◌++◌, ℕ, ◌≤◌, ◌<◌, length, drop}
+use Rattle.std.specs.Prelude.{◌≡◌, List, ℕ, ◌≤◌, length}
 use Rattle.patterns.specs.Outcome.{Outcome, good, refused}
 use Rattle.sheet.specs.Line.{Line, lent_of}
 use Rattle.sheet.specs.Read.{read_of}
 use Rattle.chase.specs.Judge.{shape_limit}
 use Rattle.sentences.specs.Explain.{Explains, Refuses}
-use Rattle.report.specs.Report.{line_limit, refusal_text}
+use Rattle.report.specs.Report.{line_limit, refusal_text, OutputMeets}
 
 -- Room for 4,096 sentences of 73 bytes: no text of sentences is longer.
 abbrev pub explanation_limit : ℕ
@@ -21,8 +21,6 @@ pub data Prints (text printed : List ℕ) : Type 0 where
   unread : (number line : ℕ) → read_of text line_limit ≡ refused number line → printed ≡ refusal_text number line → Prints text printed
   read : (lines : List Line) → read_of text line_limit ≡ good lines → Tells (lent_of lines) printed → Prints text printed
 
--- The contract of `explain_text`, for every text and all lent output: 9 exactly where less is lent than the limit, and the output is then as it was; otherwise what is printed stands at the front of the output and is counted, and the rest is as it was.
+-- The contract of `explain_text`, for every text and all lent output.
 abbrev pub ExplanationMeets : List ℕ → List ℕ → Outcome ℕ → List ℕ → Type 0
-ExplanationMeets text before (refused number line) after = (length before < explanation_limit) × (number ≡ 9) × (line ≡ 0) × (after ≡ before)
-ExplanationMeets text before (good n) after =
-    (explanation_limit ≤ length before) × ((printed : List ℕ) × Prints text printed × (n ≡ length printed) × (after ≡ printed ++ drop n before))
+ExplanationMeets text = OutputMeets explanation_limit (Prints text)

@@ -1,12 +1,14 @@
 -- A list filled from the front, and numbers of any width as bytes. Assumes nothing.
-use mathlib.Core.Path.{◌≡◌, refl, sym, ap, ap₂, ◌∙◌}
+use mathlib.Core.Path.{◌≡◌, refl, sym, subst, ap, ap₂, ◌∙◌}
 use mathlib.Core.List.{List, [], ◌∷◌, ◌++◌, append_assoc, append-nil}
 use Prim.Native.Nat.{ℕ, zero, suc, ◌+◌, ◌-◌, ◌*◌, ◌/◌, ◌%◌, ◌<◌, ◌≤◌}
 use native.Mathlib.Nat.{mul-suc, mul-zero, mul-add, mul-le-mul_left, div-div-eq-div-mul}
-use native.Mathlib.Numerals.{add-one, add-two, add-three}
+use native.Mathlib.Numerals.{add-one}
 use native.Mathlib.Omega.{arith}
-use lib.ListN.{length, get_or, set, take, drop, length-append, length-drop, take-append-drop}
+use borrow.Rule.Slice.PartMut.{put_mid}
+use lib.ListN.{length, get_or, take, drop, length-append, length-drop, take-append-drop, drop_of_length-le}
 use lib.Seq.{sets, sets-eq, length-sets, take-suc, drop-cons, drop-drop, drop-append-add, get_or-drop, take-add, take_at, length-take-le}
+use Rattle.std.specs.Int.{w16, w32, to_le_bytes}
 use Rattle.followup.specs.Bytes.{number, numbers_from, bytes_of, all_bytes}
 
 -- ---- a list filled from the front
@@ -46,18 +48,6 @@ number_more w bytes at next e h =
     ap (λ l. number (take (suc w) l)) (drop-cons bytes at 0 h)
     ∙ ap (λ k. get_or bytes at 0 + 256 * number (take w (drop k bytes))) (sym (e ∙ add-one at))
 
--- Four bytes are twice two.
-pub number_halves : (bytes : List ℕ) (at : ℕ) → at + 4 ≤ length bytes
-    → number (take 4 (drop at bytes)) ≡ number (take 2 (drop at bytes)) + 65536 * number (take 2 (drop (at + 2) bytes))
-number_halves bytes at h =
-    omega (
-      arith,
-      number_more 3 bytes at (at + 1) (omega arith) (omega arith),
-      number_more 2 bytes (at + 1) (at + 2) (omega arith) (omega arith),
-      number_more 1 bytes at (at + 1) (omega arith) (omega arith),
-      number_more 0 bytes (at + 1) (at + 2) (omega arith) (omega arith),
-    )
-
 pub length-numbers_from : (w n : ℕ) (bytes : List ℕ) → length (numbers_from w n bytes) ≡ n
 length-numbers_from w zero bytes = refl
 length-numbers_from w (suc n) bytes = ap suc (length-numbers_from w n (drop w bytes))
@@ -83,6 +73,12 @@ decoded-more w bytes before after n v room e d =
 
 pub decoded_all : (w : ℕ) (bytes before after : List ℕ) (n : ℕ) → Decoded w bytes before after n → after ≡ numbers_from w n bytes ++ drop n before
 decoded_all w bytes before after n d = d.same ∙ ap (λ k. numbers_from w n bytes ++ drop k before) (length-numbers_from w n bytes)
+
+-- All of a list that was filled.
+pub decoded_whole : (w : ℕ) (bytes before after : List ℕ) (n i : ℕ) → i ≡ n → length before ≤ n → Decoded w bytes before after i → after ≡ numbers_from w n bytes
+decoded_whole w bytes before after n i e h d =
+    decoded_all w bytes before after i d ∙ ap (λ (l : List ℕ). numbers_from w i bytes ++ l) (drop_of_length-le before {i = i} (omega arith))
+    ∙ append-nil (numbers_from w i bytes) ∙ ap (λ (k : ℕ). numbers_from w k bytes) e
 
 -- The first n of a list that begins with the first n numbers of the bytes.
 pub numbers_taken : (w n : ℕ) (bytes after rest : List ℕ) → after ≡ numbers_from w n bytes ++ rest → take n after ≡ numbers_from w n bytes
@@ -131,6 +127,19 @@ module _ {w : ℕ} {numbers before : List ℕ} {n : ℕ} where
       let filled = filled_more (bytes_of w v) (w * i) (length_encoded w i numbers (omega arith)) fits e.filled in
       record { upto = omega arith; lent = e.lent; room = e.room; filled = rw (one, is) filled }
 
+  -- One number more, in a part of the bytes.
+  pub encoding_part : {after : List ℕ} {i : ℕ} {part : List ℕ} (k : ℕ) → k ≡ w → part ≡ bytes_of w (get_or numbers i 0) → i < n → Encoding w numbers before n after i
+      → Encoding w numbers before n (put_mid (w * i) k after part) (i + 1)
+  encoding_part {after} {i} {part} k e is h enc =
+      let size : length part ≡ w = ap length is ∙ length-bytes_of w (get_or numbers i 0) in
+      let below : w * suc i ≤ w * n = mul-le-mul_left w (omega arith) in
+      let room : w * i + length part ≤ length after = omega (arith, size, mul-suc w i, below, enc.room, enc.filled.size) in
+      let end : w * i + length part ≡ w * i + k = omega (arith, size, e) in
+      let same : sets after (w * i) part ≡ put_mid (w * i) k after part =
+      sets-eq part after (w * i) room ∙ append_assoc (take (w * i) after) part (drop (w * i + length part) after)
+      ∙ ap (λ (r : List ℕ). take (w * i) after ++ (part ++ r)) (ap (λ (j : ℕ). drop j after) end ∙ sym (drop-drop k (w * i) after)) in
+      subst (λ (l : List ℕ). Encoding w numbers before n l (i + 1)) same (encoding-more is h enc)
+
   -- All of them.
   pub encoding_done : {after : List ℕ} {i : ℕ} → n ≤ i → Encoding w numbers before n after i → after ≡ all_bytes w (take n numbers) ++ drop (w * n) before
   encoding_done {after} {i} h e =
@@ -143,20 +152,12 @@ four_bytes v =
     let third : v / 65536 ≡ v / 256 / 256 = sym (div-div-eq-div-mul v 256 256) in
     rw (third, sym (div-div-eq-div-mul v 65536 256), third)
 
--- One number of four bytes more, byte by byte.
-pub encoding_four : {numbers before : List ℕ} {n : ℕ} {after : List ℕ} {i : ℕ} → i < n → Encoding 4 numbers before n after i
-    → Encoding 4 numbers before n
-    (set
-    (set (set (set after (4 * i) (get_or numbers i 0 % 256)) (4 * i + 1) (get_or numbers i 0 / 256 % 256)) (4 * i + 2) (get_or numbers i 0 / 65536 % 256))
-    (4 * i + 3)
-    (get_or numbers i 0 / 16777216 % 256))
-    (i + 1)
-encoding_four {i = i} h e = rw (add-one (4 * i), add-two (4 * i), add-three (4 * i)) (encoding-more (four_bytes _) h e)
+-- The standard library's bytes of a number.
+pub le_two : (v : ℕ) → to_le_bytes w16 v ≡ bytes_of 2 v
+le_two v = refl
 
--- One number of two bytes more, byte by byte.
-pub encoding_two : {numbers before : List ℕ} {n : ℕ} {after : List ℕ} {i : ℕ} → i < n → Encoding 2 numbers before n after i
-    → Encoding 2 numbers before n (set (set after (2 * i) (get_or numbers i 0 % 256)) (2 * i + 1) (get_or numbers i 0 / 256 % 256)) (i + 1)
-encoding_two {i = i} h e = rw (add-one (2 * i)) (encoding-more refl h e)
+pub le_four : (v : ℕ) → to_le_bytes w32 v ≡ bytes_of 4 v
+le_four v = four_bytes v
 
 -- ---- bytes that hold numbers
 

@@ -2,7 +2,6 @@
 use mathlib.Core.Path.{◌≡◌}
 use mathlib.Core.List.{List}
 use Prim.Native.Nat.{ℕ}
-use lib.ListN.{length}
 use Rattle.patterns.specs.Outcome.{Outcome, good, refused, map_good, counted, held}
 use Rattle.sheet.specs.Line.{Line}
 use Rattle.followup.specs.Reply.{Replies, Kept}

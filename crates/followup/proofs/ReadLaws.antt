@@ -8,7 +8,8 @@ use lib.Seq.{take_at}
 use Rattle.patterns.specs.Outcome.{Outcome, good, refused, map_good, counted, held}
 use Rattle.sheet.specs.Line.{Line, lent_of}
 use Rattle.sheet.specs.Read.{read_of, read_says, ReadMeets}
-use Rattle.sheet.specs.declared.ReadAnswer.{ReadAnswer}
+use Rattle.std.proofs.Common.{Result}
+use Rattle.sheet.specs.declared.Refusal.{Refusal}
 use Rattle.sheet.proofs.Sheets.{length-lent_of}
 use Rattle.sheet.proofs.Outcomes.{read_of_good}
 use Rattle.followup.specs.Bytes.{all_bytes}
@@ -27,7 +28,7 @@ room_same text lines before most h e =
     ap (read_of text) k ∙ room_enough text (length lines / 4 / 8) most h ∙ ap (λ n. read_of text (n / 8)) (sym (length-numbers_from 4 (length lines / 4) lines))
 
 -- Lines as numbers: what read answers, in a reply.
-pub reads_numbers : {text before after : List ℕ} (answer : ReadAnswer) (r : Reply) → ReadMeets text before answer after → Replies (read_says answer) r → ReadsNumbers text before r after
+pub reads_numbers : {text before after : List ℕ} (answer : Result ℕ Refusal) (r : Reply) → ReadMeets text before answer after → Replies (read_says answer) r → ReadsNumbers text before r after
 reads_numbers answer r m says = record { replies = subst (λ o. Replies o r) m.says says; lines = m.lines }
 
 abbrev as_bytes : Outcome (List Line) → Outcome (List ℕ)

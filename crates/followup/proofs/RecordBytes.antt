@@ -1,7 +1,7 @@
 -- Lent records as bytes: what carrying out puts at their front, and the rest as it was. Assumes nothing.
-use mathlib.Core.Path.{◌≡◌, refl, sym, subst, ap, ap₂, ◌∙◌}
+use mathlib.Core.Path.{◌≡◌, refl, sym, ap, ap₂, ◌∙◌}
 use mathlib.Core.List.{List, [], ◌∷◌, ◌++◌, append_assoc, append-nil, map}
-use Prim.Native.Nat.{ℕ, zero, suc, ◌+◌, ◌-◌, ◌*◌, ◌/◌, ◌≤◌, ◌<◌, min}
+use Prim.Native.Nat.{ℕ, zero, suc, ◌+◌, ◌-◌, ◌*◌, ◌/◌, ◌≤◌, ◌<◌}
 use native.Mathlib.Numerals.{add-one}
 use native.Mathlib.Omega.{arith}
 use borrow.Rule.Slice.PartMut.{mid_of, put_mid}
@@ -10,7 +10,7 @@ use lib.Seq.{ext_get_or, take_at, take_all, drop_at, drop-drop}
 use Rattle.sheet.specs.Line.{Line, lent, lent_of}
 use Rattle.sheet.specs.Write.{sheet_held}
 use Rattle.sheet.proofs.Lines.{length-lent}
-use Rattle.carrying.specs.Contract.{Carried, carried, refuses, row_line, Taken, Refuses, short, wrong, many_shapes, endless, many_records, large_number, CarryMeets, record_room}
+use Rattle.carrying.specs.Contract.{Carried, carried, refuses, row_line, Taken, Refuses, short, wrong, many_shapes, endless, many_records, large_number, CarryMeets}
 use Rattle.running.specs.Held.{row_at, rows_at, PackedRow, unpacked}
 use Rattle.running.specs.Run.{Ended}
 use Rattle.running.specs.Inner.Carry.{Settled}
@@ -18,7 +18,6 @@ use Rattle.running.proofs.CarryLaws.{carry_ended}
 use Rattle.running.proofs.CopyLaws.{line_of, line_letter, line_kind, line_number, copied, copied_more, copied_length}
 use Rattle.followup.specs.Bytes.{numbers_of, all_bytes}
 use Rattle.followup.specs.Reply.{CarryReplies, CarriesNumbers, CarriesBytes}
-use Rattle.followup.specs.Inner.First.{first_numbers, FirstSays}
 use Rattle.followup.specs.declared.CarryReply.{CarryReply}
 use Rattle.followup.proofs.ByteLaws.{Filled, length-numbers_from, length-all_bytes, all_bytes-append, Bytes, new_front}
 use Rattle.followup.proofs.Truncated.{sheet_truncated}
@@ -179,7 +178,7 @@ module _ (ms ns before : List ℕ) (e : sheet_held ns ≡ sheet_held ms) where
   carry_same (refuses n k) now m = (refuses_same n k m.0, m.1)
 
 -- The rules of the first 2,369 lines are carried out as those of all are.
-carries_truncated : (first lines before : List ℕ) (r : CarryReply) (after : List ℕ) → first ≡ take 18952 (numbers_of 4 lines) → CarriesNumbers first before r after
+pub carries_truncated : (first lines before : List ℕ) (r : CarryReply) (after : List ℕ) → first ≡ take 18952 (numbers_of 4 lines) → CarriesNumbers first before r after
     → CarriesBytes lines before r after
 carries_truncated first lines before r after e m =
     record {
@@ -190,54 +189,3 @@ carries_truncated first lines before r after e m =
       bytes = m.bytes;
       kept = m.kept;
     }
-
--- ---- judged first
-
-not_zero : {numbers before : List ℕ} (n k : ℕ) → Refuses numbers before n k → n ≡ 0 → ⊥
-not_zero n k (short few) z = omega arith
-not_zero n k (wrong line room is) z = omega arith
-not_zero n k (many_shapes ls room is more) z = omega arith
-not_zero n k (endless ls t un) z = omega arith
-not_zero n k (many_records ls t d b more) z = omega arith
-not_zero n k (large_number ls t c counted few f made large) z = omega arith
-
--- From what Judge answers for the numbers decoded.
-module _ (lines numbers : List ℕ) (n : ℕ) (is : n ≡ min (length lines / 4) 18952) (e : take n numbers ≡ first_numbers lines) (r : CarryReply) where
-  all_decoded : take (min (length lines / 4) 18952) numbers ≡ first_numbers lines
-  all_decoded = ap (λ (k : ℕ). take k numbers) (sym is) ∙ e
-
-  pub first_settles : CarryReplies (carried 0 0) r → ((before : List ℕ) → record_room ≤ length before → Settled (take n numbers) before) → FirstSays lines r numbers
-  first_settles says s =
-      record {
-        decoded = all_decoded;
-        settles = λ z before room. subst (λ (ns : List ℕ). Settled ns before) e (s before room);
-        refuses = λ bad. absurd (bad says.0);
-        none = λ bad. absurd (bad says.0);
-      }
-
-  pub first_refuses : (m k : ℕ) → CarryReplies (refuses m k) r → ((before : List ℕ) → record_room ≤ length before → Refuses (take n numbers) before m k) → FirstSays lines r numbers
-  first_refuses m k says why =
-      record {
-        decoded = all_decoded;
-        settles = λ z before room. absurd (not_zero m k (why before room) (sym says.0 ∙ z));
-        refuses = λ bad before room. rw (says.0, says.1) (subst (λ (ns : List ℕ). Refuses ns before m k) e (why before room));
-        none = λ bad. (says.2, says.3);
-      }
-
--- From what was said first to the whole answer.
-module _ (lines : List ℕ) {r : CarryReply} {numbers : List ℕ} (says : FirstSays lines r numbers) (before : List ℕ) (room : 32768 ≤ length before / 4) where
-  lent_room : record_room ≤ length (numbers_of 4 before)
-  lent_room = omega (arith, room, lent_records before)
-
-  pub carries_first : (n : ℕ) → n ≡ min (length lines / 4) 18952 → r.refusal ≡ 0 → Settled (take n numbers) (numbers_of 4 before)
-  carries_first n is z =
-      subst (λ (ns : List ℕ). Settled ns (numbers_of 4 before)) (sym says.decoded ∙ ap (λ (k : ℕ). take k numbers) (sym is))
-      (says.settles z (numbers_of 4 before) lent_room)
-
-  pub carries_settled : (n : ℕ) → n ≡ min (length lines / 4) 18952 → (s : CarryReply) (after : List ℕ) → CarriesNumbers (take n numbers) before s after → CarriesBytes lines before s after
-  carries_settled n is s after = carries_truncated (take n numbers) lines before s after (ap (λ (k : ℕ). take k numbers) is ∙ says.decoded)
-
-  pub carries_refused : Bytes before → (r.refusal ≡ 0 → ⊥) → CarriesBytes lines before r before
-  carries_refused b bad =
-      carries_truncated (first_numbers lines) lines before r before refl
-      (carries_none (first_numbers lines) before b r.refusal r.line r (says.refuses bad (numbers_of 4 before) lent_room) (refl, refl, (says.none bad).0, (says.none bad).1))

@@ -9,7 +9,8 @@ use Rattle.sheet.specs.Line.{Line}
 use Rattle.patterns.specs.Outcome.{Outcome, counted, held}
 use Rattle.sheet.specs.Read.{Taken, takes, refuses, in_front, go_on, checked}
 use Rattle.sheet.specs.Write.{taken_lent, parts_of, sheet_held, written, write_of, write_says, WriteMeets}
-use Rattle.sheet.specs.declared.WriteAnswer.{WriteAnswer}
+use Rattle.std.proofs.Common.{Result}
+use Rattle.sheet.specs.declared.Refusal.{Refusal}
 use Rattle.sheet.proofs.Sheets.{parts_next, lent_shows}
 use Rattle.sheet.proofs.LineCount.{Few, few_none, few_more, at_most_2368_lines}
 use Rattle.followup.specs.Bytes.{number, numbers_from, numbers_of}
@@ -84,7 +85,7 @@ decoded lines rest after count is e =
     ∙ sym (take_numbers 4 18952 (length lines / 4) count lines is)
 
 -- From what write answers for these to what is answered for all.
-pub writes : {first lines before after : List ℕ} (answer : WriteAnswer) (r : Reply) → first ≡ take 18952 (numbers_of 4 lines) → WriteMeets first before answer after
+pub writes : {first lines before after : List ℕ} (answer : Result ℕ Refusal) (r : Reply) → first ≡ take 18952 (numbers_of 4 lines) → WriteMeets first before answer after
     → Replies (write_says answer) r → WritesBytes lines before r after
 writes {first} {lines} {before} {after} answer r e m says =
     let same = ap (λ (ns : List ℕ). write_of ns (length before)) e ∙ sym (write_truncated (numbers_of 4 lines) (length before)) in

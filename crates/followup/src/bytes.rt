@@ -7,9 +7,7 @@ fn u16_at(bytes: &[u8], at: usize) -> u16
     requires { at + 2 ≤ length bytes.now }
     ensures { result ≡ number (take 2 (drop at bytes.now)) }
 {
-    let low = bytes[at] as u16;
-    let high = bytes[at + 1] as u16;
-    low + 256 * high
+    u16::from_le_bytes([bytes[at], bytes[at + 1]])
 }
 
 // The u32 at byte `at`.
@@ -17,9 +15,7 @@ fn number_at(bytes: &[u8], at: usize) -> u32
     requires { at + 4 ≤ length bytes.now }
     ensures { result ≡ number (take 4 (drop at bytes.now)) }
 {
-    let low = u16_at(bytes, at) as u32;
-    let high = u16_at(bytes, at + 2) as u32;
-    low + 65536 * high
+    u32::from_le_bytes([bytes[at], bytes[at + 1], bytes[at + 2], bytes[at + 3]])
 }
 
 // The five u16 from byte `at` on.
@@ -27,12 +23,13 @@ pub(crate) fn five_at(bytes: &[u8], at: usize) -> [u16; 5]
     requires { at + 10 ≤ length bytes.now }
     ensures { result ≡ numbers_from 2 5 (drop at bytes.now) }
 {
-    let a = u16_at(bytes, at);
-    let b = u16_at(bytes, at + 2);
-    let c = u16_at(bytes, at + 4);
-    let d = u16_at(bytes, at + 6);
-    let e = u16_at(bytes, at + 8);
-    [a, b, c, d, e]
+    [
+        u16_at(bytes, at),
+        u16_at(bytes, at + 2),
+        u16_at(bytes, at + 4),
+        u16_at(bytes, at + 6),
+        u16_at(bytes, at + 8),
+    ]
 }
 
 // Puts the first n numbers of the bytes at the front of the numbers.
@@ -40,41 +37,27 @@ pub(crate) fn decode(bytes: &[u8], numbers: &mut [u32], n: usize)
     requires { (4 * n ≤ length bytes.now) × (n ≤ length numbers.old) }
     ensures { numbers.new ≡ numbers_from 4 n bytes.now ++ drop n numbers.old }
 {
-    let mut i: usize = 0;
-    while i < n {
-        numbers[i] = number_at(bytes, 4 * i);
-        i += 1;
+    for (i, number) in numbers[..n].iter_mut().enumerate() {
+        *number = number_at(bytes, 4 * i);
     }
 }
 
-// Puts the first n numbers at the front of the bytes.
+// Puts the first n numbers at the front of the bytes. Not one function with `encode_u16`: a trait with its law and two impls is longer than both.
 pub(crate) fn encode_u32(numbers: &[u32], bytes: &mut [u8], n: usize)
     requires { (n ≤ length numbers.now) × (4 * n ≤ length bytes.old) }
     ensures { bytes.new ≡ all_bytes 4 (take n numbers.now) ++ drop (4 * n) bytes.old }
 {
-    let mut i: usize = 0;
-    while i < n {
-        let v = numbers[i];
-        let at = 4 * i;
-        bytes[at] = (v % 256) as u8;
-        bytes[at + 1] = (v / 256 % 256) as u8;
-        bytes[at + 2] = (v / 65536 % 256) as u8;
-        bytes[at + 3] = (v / 16777216 % 256) as u8;
-        i += 1;
+    for (i, number) in numbers[..n].iter().enumerate() {
+        bytes[4 * i..4 * i + 4].copy_from_slice(&number.to_le_bytes());
     }
 }
 
-// Puts the first n numbers at the front of the bytes.
+// Puts the first n numbers at the front of the bytes. Not one function with `encode_u32`, as it says there.
 pub(crate) fn encode_u16(numbers: &[u16], bytes: &mut [u8], n: usize)
     requires { (n ≤ length numbers.now) × (2 * n ≤ length bytes.old) }
     ensures { bytes.new ≡ all_bytes 2 (take n numbers.now) ++ drop (2 * n) bytes.old }
 {
-    let mut i: usize = 0;
-    while i < n {
-        let v = numbers[i];
-        let at = 2 * i;
-        bytes[at] = (v % 256) as u8;
-        bytes[at + 1] = (v / 256 % 256) as u8;
-        i += 1;
+    for (i, number) in numbers[..n].iter().enumerate() {
+        bytes[2 * i..2 * i + 2].copy_from_slice(&number.to_le_bytes());
     }
 }

@@ -4,14 +4,13 @@
 mod bytes;
 mod records;
 
-ghost use Rattle.std.specs.Prelude.{◌≡◌, ◌*◌, ◌/◌, ◌≤◌, min, length, take};
+ghost use Rattle.std.specs.Prelude.{◌≡◌, ◌*◌, ◌/◌, ◌≤◌, Ok, min, length, take};
 ghost use Rattle.sheet.specs.Answer.{refusal_says};
 ghost use Rattle.sheet.specs.Read.{read_says};
 ghost use Rattle.sheet.specs.Write.{write_says};
 ghost use Rattle.chase.specs.Judge.{judged as judgedAs, refuses as refusedAs};
 ghost use Rattle.judging.specs.Answer.{verdict_of, judge_says};
 ghost use Rattle.carrying.specs.Contract.{carried as carriedAs, refuses as refuses_to_carry};
-ghost use Rattle.running.specs.Held.{records_fit};
 ghost use Rattle.running.specs.Answer.{carry_refusal_number, carry_refusal_line};
 ghost use Rattle.running.specs.Inner.Carry.{Settled};
 ghost use Rattle.steps.specs.Showing.{shown_at};
@@ -19,16 +18,17 @@ ghost use Rattle.forecasting.specs.Answer.{figure_of, forecast_says};
 ghost use Rattle.explaining.specs.Answer.{explain_says};
 ghost use Rattle.followup.specs.Bytes.{numbers_of};
 ghost use Rattle.followup.specs.Reply.{version, Replies, ReadsBytes, WritesBytes, FindsPattern, JudgeReplies, JudgesNumbers, JudgesBytes, JudgesText, CarryReplies, CarriesNumbers, CarriesBytes, figure_number, ForecastReplies, ForecastsBytes, ExplainReplies, ExplainsBytes, ShowsStep, FindsLine};
-ghost use Rattle.followup.specs.Inner.Numbers.{ReadsNumbers};
+ghost use Rattle.followup.specs.Inner.Numbers.{ReadsNumbers, first_numbers, TakesNumbers, AnswersNumbers, WritesNumbers, ForecastsNumbers, ExplainsNumbers};
 ghost use Rattle.followup.specs.Inner.First.{FirstSays};
 
-use explaining::ExplainAnswer;
-use forecasting::{Figure, ForecastAnswer};
-use judging::{Figures, JudgeAnswer};
-use running::{CarryRefusal, RunAnswer};
-use sheet::{PatternAnswer, ReadAnswer, Refusal, WriteAnswer};
+use explaining::ExplainRefusal;
+use forecasting::ForecastRefusal;
+use judging::{JudgeRefusal, Verdict};
+use running::CarryRefusal;
+use sheet::Refusal;
 
 // What reading, writing, finding a pattern and explaining answer: refusal 0 and a count, or a refusal with its number and line.
+// Which refusal it is, is a number here: the C interface.
 #[repr(C)]
 #[derive(Drop)]
 pub struct Reply {
@@ -38,6 +38,7 @@ pub struct Reply {
 }
 
 // What judging answers: refusal 0 and the figures, or a refusal with its number and line.
+// Refusal and verdict are numbers here: the C interface.
 #[repr(C)]
 #[derive(Drop)]
 pub struct JudgeReply {
@@ -54,6 +55,7 @@ pub struct JudgeReply {
 }
 
 // What carrying out answers: refusal 0, how many records there are and how many firings made them; or a refusal with its number and line.
+// Which refusal it is, is a number here: the C interface.
 #[repr(C)]
 #[derive(Drop)]
 pub struct CarryReply {
@@ -64,6 +66,7 @@ pub struct CarryReply {
 }
 
 // What the forecast answers: refusal 0 and three figures; or a refusal with its number and line. A figure beyond the largest u32 is one more than that.
+// Refusal and figures are numbers here: the C interface.
 #[repr(C)]
 #[derive(Drop)]
 pub struct ForecastReply {
@@ -75,6 +78,7 @@ pub struct ForecastReply {
 }
 
 // A step: rule, H line within it (1 to 4), from field, to field, fresh (1) or carried (0).
+// Fresh or carried is a number here: the C interface.
 #[repr(C)]
 #[derive(Drop)]
 pub struct StepReply {
@@ -117,42 +121,7 @@ fn refuses(refusal: Refusal) -> Reply
     ensures { Replies (refusal_says refusal) result }
 {
     let said = sheet::refusal_numbers(refusal);
-    no_count(said.number, said.line)
-}
-
-// Room for as many lines as the longest text can have: 1,638.
-fn room_for_text() -> [u32; 13104]
-    ensures { length result ≡ 13104 }
-{
-    [0; 13104]
-}
-
-// Room for one line more than a sheet can have: 2,369.
-fn room_for_lines() -> [u32; 18952]
-    ensures { length result ≡ 18952 }
-{
-    [0; 18952]
-}
-
-// Room for 256 lines: to clear less for a small sheet.
-fn room_for_few_lines() -> [u32; 2048]
-    ensures { length result ≡ 2048 }
-{
-    [0; 2048]
-}
-
-// Room for 4,096 steps.
-fn room_for_steps() -> [u16; 20480]
-    ensures { length result ≡ 20480 }
-{
-    [0; 20480]
-}
-
-// Room for 4,096 records, as a run holds them: seven numbers each.
-fn room_for_records() -> [u32; 28672]
-    ensures { records_fit result }
-{
-    [0; 28672]
+    no_count(said.number as u32, said.line)
 }
 
 fn least(a: usize, b: usize) -> usize
@@ -178,13 +147,40 @@ fn decode_lines(lines: &[u8], numbers: &mut [u32]) -> usize
     count
 }
 
-// What reading answers, as a reply.
-fn read_reply(answer: ReadAnswer) -> Reply
-    ensures { Replies (read_says answer) result }
+// Decodes lent lines into room for N numbers, and answers what `f` answers of them; `lent` is the other memory that is lent.
+fn numbers_in<const N: usize, R, F: FnOnce(&[u32], &mut [u8]) -> R>(
+    lines: &[u8],
+    lent: &mut [u8],
+    f: F,
+) -> R
+    requires room { (min (length lines.now / 4) 18952 ≤ N) × (N ≤ 18952) }
+    requires callable { TakesNumbers F.FnOnce f (first_numbers lines.now) lent.old }
+    ensures { AnswersNumbers F.FnOnce f (first_numbers lines.now) lent.old result lent.new }
+{
+    let mut numbers = [0; N];
+    let count = decode_lines(lines, &mut numbers);
+    f(&numbers[..count], lent)
+}
+
+// Decodes lent lines, one more than a sheet can have at most, and answers what `f` answers of their numbers. For a small sheet less room is cleared.
+fn with_numbers<R, F: FnOnce(&[u32], &mut [u8]) -> R>(lines: &[u8], lent: &mut [u8], f: F) -> R
+    requires { TakesNumbers F.FnOnce f (first_numbers lines.now) lent.old }
+    ensures { AnswersNumbers F.FnOnce f (first_numbers lines.now) lent.old result lent.new }
+{
+    if lines.len() / 4 > 2048 {
+        return numbers_in::<18952, R, F>(lines, lent, f);
+    }
+    numbers_in::<2048, R, F>(lines, lent, f)
+}
+
+// What reading or writing answers, as a reply.
+fn count_reply(answer: Result<usize, Refusal>) -> Reply
+    ensures read { Replies (read_says answer) result }
+    ensures written { Replies (write_says answer) result }
 {
     match answer {
-        ReadAnswer::Lines(count) => counts(count),
-        ReadAnswer::Refused(refusal) => refuses(refusal),
+        Ok(count) => counts(count),
+        Err(refusal) => refuses(refusal),
     }
 }
 
@@ -192,7 +188,7 @@ fn read_reply(answer: ReadAnswer) -> Reply
 fn read_numbers(text: &[u8], numbers: &mut [u32]) -> Reply
     ensures { ReadsNumbers text.now numbers.old result numbers.new }
 {
-    read_reply(sheet::read(text, numbers))
+    count_reply(sheet::read(text, numbers))
 }
 
 // Reads a text, with room for the numbers of as many lines as it can have.
@@ -206,32 +202,24 @@ fn read_lines(text: &[u8], numbers: &mut [u32], lines: &mut [u8]) -> Reply
     said
 }
 
-// What writing answers, as a reply.
-fn write_reply(answer: WriteAnswer) -> Reply
-    ensures { Replies (write_says answer) result }
+// Writes lines that are held as numbers.
+fn write_numbers(numbers: &[u32], text: &mut [u8]) -> Reply
+    ensures { WritesNumbers numbers.now text.old result text.new }
 {
-    match answer {
-        WriteAnswer::Bytes(size) => counts(size),
-        WriteAnswer::Refused(refusal) => refuses(refusal),
-    }
+    count_reply(sheet::write(numbers, text))
 }
 
-// Writes lines, with room for their numbers.
-fn write_lines(lines: &[u8], numbers: &mut [u32], text: &mut [u8]) -> Reply
-    requires { min (length lines.now / 4) 18952 ≤ length numbers.old }
-    ensures { WritesBytes lines.now text.old result text.new }
+fn judged(verdict: Verdict) -> JudgeReply
+    ensures { JudgeReplies (judge_says (Ok verdict)) result }
 {
-    let count = decode_lines(lines, numbers);
-    write_reply(sheet::write(&numbers[..count], text))
-}
-
-fn judged(verdict: usize, f: Figures) -> JudgeReply
-    ensures { JudgeReplies (judgedAs (verdict_of verdict f)) result }
-{
+    let (number, f) = match verdict {
+        Verdict::Settles(f) => (1, f),
+        Verdict::Endless(f) => (2, f),
+    };
     JudgeReply {
         refusal: 0,
         line: 0,
-        verdict,
+        verdict: number,
         deepest: f.deepest,
         shapes: f.shapes,
         fired: f.fired,
@@ -260,13 +248,12 @@ fn no_judgement(refusal: u32, line: usize) -> JudgeReply
 }
 
 // What judging answers, as a reply.
-fn judge_reply(answer: JudgeAnswer) -> JudgeReply
+fn judge_reply(answer: Result<Verdict, JudgeRefusal>) -> JudgeReply
     ensures { JudgeReplies (judge_says answer) result }
 {
     match answer {
-        JudgeAnswer::Settles(f) => judged(1, f),
-        JudgeAnswer::Endless(f) => judged(2, f),
-        JudgeAnswer::Refused(refusal) => {
+        Ok(verdict) => judged(verdict),
+        Err(refusal) => {
             let said = judging::refusal_numbers(refusal);
             no_judgement(said.number as u32, said.line)
         }
@@ -278,19 +265,10 @@ fn judge_numbers(numbers: &[u32], steps: &mut [u8]) -> JudgeReply
     requires { 20480 ≤ length steps.old / 2 }
     ensures { JudgesNumbers numbers.now steps.old result steps.new }
 {
-    let mut written = room_for_steps();
+    let mut written = [0; 20480];
     let said = judge_reply(judging::judge(numbers, &mut written));
     bytes::encode_u16(&written, steps, 5 * said.trail + 5 * said.loop_steps);
     said
-}
-
-// Judges lines, with room for their numbers.
-fn judge_lines(lines: &[u8], numbers: &mut [u32], steps: &mut [u8]) -> JudgeReply
-    requires { (min (length lines.now / 4) 18952 ≤ length numbers.old) × (20480 ≤ length steps.old / 2) }
-    ensures { JudgesBytes lines.now steps.old result steps.new }
-{
-    let count = decode_lines(lines, numbers);
-    judge_numbers(&numbers[..count], steps)
 }
 
 // Judges a text, with room for the numbers of as many lines as it can have.
@@ -310,15 +288,8 @@ fn judge_long_text(text: &[u8], steps: &mut [u8]) -> JudgeReply
     requires { 20480 ≤ length steps.old / 2 }
     ensures { JudgesText text.now steps.old result steps.new }
 {
-    let mut many = room_for_text();
+    let mut many = [0; 13104];
     judge_read(text, &mut many, steps)
-}
-
-// 24,576 places: for the steps of judging, then for looking records up.
-fn room_for_places() -> [u16; 24576]
-    ensures { length result ≡ 24576 }
-{
-    [0; 24576]
 }
 
 fn carried(records: usize, firings: usize) -> CarryReply
@@ -351,53 +322,63 @@ fn carry_refuses(refusal: CarryRefusal) -> CarryReply
     not_carried(said.number as u32, said.line)
 }
 
-// Decodes lines and judges them first: refusal 0 where they settle. A function of its own, since the run needs the stack that judging needs.
-fn judge_first(lines: &[u8], numbers: &mut [u32], places: &mut [u16]) -> CarryReply
-    requires { (min (length lines.now / 4) 18952 ≤ length numbers.old) × (length places.old ≡ 24576) }
-    ensures { FirstSays lines.now result numbers.new }
+// Judges lines first: they must settle.
+fn settles(numbers: &[u32], places: &mut [u16]) -> Result<(), CarryRefusal>
+    requires { length places.old ≡ 24576 }
+    ensures { FirstSays numbers.now result }
 {
-    let count = decode_lines(lines, numbers);
-    match judging::judge(&numbers[..count], places) {
-        JudgeAnswer::Settles(_) => carried(0, 0),
-        JudgeAnswer::Endless(_) => carry_refuses(CarryRefusal::Endless),
-        JudgeAnswer::Refused(refusal) => carry_refuses(running::judge_refused(refusal)),
+    match judging::judge(numbers, places)? {
+        Verdict::Settles(_) => Ok(()),
+        Verdict::Endless(_) => Err(CarryRefusal::Endless),
     }
 }
 
-// Carries the rules of a sheet out that settles, and puts the records into the lent bytes when the answer is sure.
+// Carries the rules of a sheet out that settles, and puts the records into the lent bytes when the answer is sure. Its rows are not on the stack while the
+// lines are judged.
+#[inline(never)]
 fn carry_settled(numbers: &[u32], places: &mut [u16], records: &mut [u8]) -> CarryReply
     requires { Settled numbers.now (numbers_of 4 records.old) × (length places.old ≡ 24576) }
     ensures { CarriesNumbers numbers.now records.old result records.new }
 {
-    let mut rows = room_for_records();
+    let mut rows = [0; 28672];
     match running::run(numbers, &mut rows, places) {
-        RunAnswer::Ended(totals) => {
+        Ok(totals) => {
             records::encode_records(&rows, totals.records, records);
             carried(totals.records, totals.firings)
         }
-        RunAnswer::RecordsOver => carry_refuses(CarryRefusal::RecordsOver),
-        RunAnswer::NumberOver => carry_refuses(CarryRefusal::NumberOver),
-        RunAnswer::LineWrong(line) => carry_refuses(CarryRefusal::LineWrong(line)),
-        RunAnswer::RoomWrong => carry_refuses(CarryRefusal::RecordsShort),
+        Err(refusal) => carry_refuses(CarryRefusal::from(refusal)),
+    }
+}
+
+// Carries the rules of lines out.
+fn carry_numbers(numbers: &[u32], records: &mut [u8]) -> CarryReply
+    requires { 32768 ≤ length records.old / 4 }
+    ensures { CarriesNumbers numbers.now records.old result records.new }
+{
+    // 24,576 places: for the steps of judging, then for looking records up.
+    let mut places = [0; 24576];
+    match settles(numbers, &mut places) {
+        Ok(()) => carry_settled(numbers, &mut places, records),
+        Err(refusal) => carry_refuses(refusal),
     }
 }
 
 // A figure as a number: beyond is one more than the largest u32.
-fn figure_number(figure: Figure) -> u64
+fn figure_number(figure: Option<u32>) -> u64
     ensures { result ≡ figure_number (figure_of figure) }
 {
     match figure {
-        Figure::Number(number) => number as u64,
-        Figure::Beyond => 4294967296,
+        Some(number) => number as u64,
+        None => 4294967296,
     }
 }
 
 // What the forecast answers, as a reply.
-fn forecast_reply(answer: ForecastAnswer) -> ForecastReply
+fn forecast_reply(answer: Result<forecasting::Figures, ForecastRefusal>) -> ForecastReply
     ensures { ForecastReplies (forecast_says answer) result }
 {
     match answer {
-        ForecastAnswer::Foretold(f) => {
+        Ok(f) => {
             let values = f.values;
             let records = f.records;
             let pairs = f.pairs;
@@ -409,7 +390,7 @@ fn forecast_reply(answer: ForecastAnswer) -> ForecastReply
                 pairs: figure_number(pairs),
             }
         }
-        ForecastAnswer::Refused(refusal) => {
+        Err(refusal) => {
             let said = forecasting::refusal_numbers(refusal);
             ForecastReply {
                 refusal: said.number as u32,
@@ -422,35 +403,31 @@ fn forecast_reply(answer: ForecastAnswer) -> ForecastReply
     }
 }
 
-// Foretells of lines, with room for their numbers.
-fn forecast_lines(lines: &[u8], numbers: &mut [u32]) -> ForecastReply
-    requires { min (length lines.now / 4) 18952 ≤ length numbers.old }
-    ensures { ForecastsBytes lines.now result }
+// Foretells of lines that are held as numbers. Nothing else is lent.
+fn forecast_numbers(numbers: &[u32], _lent: &mut [u8]) -> ForecastReply
+    ensures { ForecastsNumbers numbers.now result }
 {
-    let count = decode_lines(lines, numbers);
-    forecast_reply(forecasting::forecast(&numbers[..count]))
+    forecast_reply(forecasting::forecast(numbers))
 }
 
 // What explaining answers, as a reply.
-fn explain_reply(answer: ExplainAnswer) -> Reply
+fn explain_reply(answer: Result<usize, ExplainRefusal>) -> Reply
     ensures { ExplainReplies (explain_says answer) result }
 {
     match answer {
-        ExplainAnswer::Bytes(size) => counts(size),
-        ExplainAnswer::Refused(refusal) => {
+        Ok(bytes) => counts(bytes),
+        Err(refusal) => {
             let said = explaining::refusal_numbers(refusal);
             no_count(said.number as u32, said.line)
         }
     }
 }
 
-// Explains lines, with room for their numbers.
-fn explain_lines(lines: &[u8], numbers: &mut [u32], text: &mut [u8]) -> Reply
-    requires { min (length lines.now / 4) 18952 ≤ length numbers.old }
-    ensures { ExplainsBytes lines.now text.old result text.new }
+// Explains lines that are held as numbers.
+fn explain_numbers(numbers: &[u32], text: &mut [u8]) -> Reply
+    ensures { ExplainsNumbers numbers.now text.old result text.new }
 {
-    let count = decode_lines(lines, numbers);
-    explain_reply(explaining::explain(&numbers[..count], text))
+    explain_reply(explaining::explain(numbers, text))
 }
 
 // The numbers of step k, counted from 0; five zeros where the bytes hold none.
@@ -472,16 +449,17 @@ pub extern "C" fn followup_version() -> u32
     1
 }
 
-// Reads a text into lent lines, 32 bytes each. A text of up to 5,120 bytes has up to 256 lines.
+// Reads a text into lent lines, 32 bytes each. A text has up to 1,638 lines, and one of up to 5,120 bytes up to 256.
 #[unsafe(no_mangle)]
 pub extern "C" fn followup_read_v1(text: &[u8], lines: &mut [u8]) -> Reply
     ensures { ReadsBytes text.now lines.old result lines.new }
 {
+    // The same two rooms as in judging a text, but what is done in them differs: one function for both is no plainer.
     if text.len() > 5120 {
-        let mut many = room_for_text();
+        let mut many = [0; 13104];
         return read_lines(text, &mut many, lines);
     }
-    let mut few = room_for_few_lines();
+    let mut few = [0; 2048];
     read_lines(text, &mut few, lines)
 }
 
@@ -490,12 +468,7 @@ pub extern "C" fn followup_read_v1(text: &[u8], lines: &mut [u8]) -> Reply
 pub extern "C" fn followup_write_v1(lines: &[u8], text: &mut [u8]) -> Reply
     ensures { WritesBytes lines.now text.old result text.new }
 {
-    if lines.len() / 4 > 2048 {
-        let mut many = room_for_lines();
-        return write_lines(lines, &mut many, text);
-    }
-    let mut few = room_for_few_lines();
-    write_lines(lines, &mut few, text)
+    with_numbers(lines, text, write_numbers)
 }
 
 // The number of a record's pattern; its fields are four bytes each.
@@ -507,8 +480,8 @@ pub extern "C" fn followup_pattern_v1(fields: &[u8]) -> Reply
     let count = count_of(fields.len(), 7);
     bytes::decode(fields, &mut numbers, count);
     match sheet::pattern(&numbers[..count]) {
-        PatternAnswer::Number(number) => counts(number),
-        PatternAnswer::FieldCount => no_count(10, 0),
+        Some(number) => counts(number),
+        None => no_count(10, 0),
     }
 }
 
@@ -520,12 +493,7 @@ pub extern "C" fn followup_judge_v1(lines: &[u8], steps: &mut [u8]) -> JudgeRepl
     if steps.len() / 2 < 20480 {
         return no_judgement(12, 0);
     }
-    if lines.len() / 4 > 2048 {
-        let mut many = room_for_lines();
-        return judge_lines(lines, &mut many, steps);
-    }
-    let mut few = room_for_few_lines();
-    judge_lines(lines, &mut few, steps)
+    with_numbers(lines, steps, judge_numbers)
 }
 
 // Judges a text. At least 4,096 steps, ten bytes each, are lent for the trail and the loop. A text of up to 5,120 bytes has up to 256 lines.
@@ -536,10 +504,11 @@ pub extern "C" fn followup_judge_text_v1(text: &[u8], steps: &mut [u8]) -> Judge
     if steps.len() < 40960 {
         return no_judgement(12, 0);
     }
+    // As in reading a text. The room for a long text has a frame of its own.
     if text.len() > 5120 {
         return judge_long_text(text, steps);
     }
-    let mut few = room_for_few_lines();
+    let mut few = [0; 2048];
     judge_read(text, &mut few, steps)
 }
 
@@ -551,22 +520,7 @@ pub extern "C" fn followup_carry_v1(lines: &[u8], records: &mut [u8]) -> CarryRe
     if records.len() / 4 < 32768 {
         return not_carried(12, 0);
     }
-    let held = count_of(lines.len(), 18952);
-    let mut places = room_for_places();
-    if held > 2048 {
-        let mut many = room_for_lines();
-        let first = judge_first(lines, &mut many, &mut places);
-        if first.refusal == 0 {
-            return carry_settled(&many[..held], &mut places, records);
-        }
-        return first;
-    }
-    let mut few = room_for_few_lines();
-    let first = judge_first(lines, &mut few, &mut places);
-    if first.refusal == 0 {
-        return carry_settled(&few[..held], &mut places, records);
-    }
-    first
+    with_numbers(lines, records, carry_numbers)
 }
 
 // Foretells of lent lines, 32 bytes each, how many values, records, and pairs of rule and carried values carrying their rules out may come to.
@@ -574,12 +528,7 @@ pub extern "C" fn followup_carry_v1(lines: &[u8], records: &mut [u8]) -> CarryRe
 pub extern "C" fn followup_forecast_v1(lines: &[u8]) -> ForecastReply
     ensures { ForecastsBytes lines.now result }
 {
-    if lines.len() / 4 > 2048 {
-        let mut many = room_for_lines();
-        return forecast_lines(lines, &mut many);
-    }
-    let mut few = room_for_few_lines();
-    forecast_lines(lines, &mut few)
+    with_numbers(lines, &mut [], forecast_numbers)
 }
 
 // Writes the sentences of an endless sheet as text: one for each step of its trail and its loop. The lines are lent, 32 bytes each. A good call changes the bytes that it counts and nothing else; a refusal changes nothing.
@@ -587,12 +536,7 @@ pub extern "C" fn followup_forecast_v1(lines: &[u8]) -> ForecastReply
 pub extern "C" fn followup_explain_v1(lines: &[u8], text: &mut [u8]) -> Reply
     ensures { ExplainsBytes lines.now text.old result text.new }
 {
-    if lines.len() / 4 > 2048 {
-        let mut many = room_for_lines();
-        return explain_lines(lines, &mut many, text);
-    }
-    let mut few = room_for_few_lines();
-    explain_lines(lines, &mut few, text)
+    with_numbers(lines, text, explain_numbers)
 }
 
 // Step k of lent steps, counted from 0; all zeros where they hold none.
@@ -618,14 +562,12 @@ pub extern "C" fn followup_line_span_v1(text: &[u8], number: usize) -> SpanReply
 {
     let mut start: usize = 0;
     let mut end: usize = 0;
-    let mut n: usize = 0;
-    while n < number {
+    for n in 0..number {
         start = end;
         end = walker::moved_from(text, start);
         if end == start {
             return SpanReply { start, end };
         }
-        n += 1;
     }
     SpanReply { start, end }
 }

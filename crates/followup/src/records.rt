@@ -14,14 +14,16 @@ fn record_line(rows: &[u32], i: usize) -> [u32; 8]
     ensures { result ≡ lent (row_line (unpacked (row_at rows.now i))) }
 {
     let at = 7 * i;
-    let kind = rows[at] / 8;
-    let a = rows[at + 1];
-    let b = rows[at + 2];
-    let c = rows[at + 3];
-    let d = rows[at + 4];
-    let e = rows[at + 5];
-    let f = rows[at + 6];
-    [LETTER_R, kind, a, b, c, d, e, f]
+    [
+        LETTER_R,
+        rows[at] / 8,
+        rows[at + 1],
+        rows[at + 2],
+        rows[at + 3],
+        rows[at + 4],
+        rows[at + 5],
+        rows[at + 6],
+    ]
 }
 
 // Puts the first so many records at the front of the bytes.
@@ -29,11 +31,9 @@ pub(crate) fn encode_records(rows: &[u32], count: usize, bytes: &mut [u8])
     requires { Holds rows.now count (rows_at rows.now count) × (32 * count ≤ length bytes.old) }
     ensures { bytes.new ≡ all_bytes 4 (lent_of (map row_line (rows_at rows.now count))) ++ drop (32 * count) bytes.old }
 {
-    let mut i: usize = 0;
-    while i < count {
+    for i in 0..count {
         let line = record_line(rows, i);
         let at = 32 * i;
         encode_u32(&line, &mut bytes[at..], 8);
-        i += 1;
     }
 }

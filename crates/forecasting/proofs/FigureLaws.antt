@@ -1,18 +1,31 @@
 -- The figures by coefficients and with caps are those of the forecast. Assumes nothing.
 use mathlib.Core.Path.{◌≡◌, refl, sym, ◌∙◌, ap}
 use mathlib.Core.List.{List}
-use Prim.Native.Nat.{ℕ, zero, suc, ◌+◌}
+use Prim.Native.Nat.{ℕ, zero, suc, ◌+◌, ◌<◌}
 use native.Mathlib.Decide.{ℕ_discrete}
 use native.Mathlib.Numerals.{add-one}
 use native.Mathlib.Omega.{arith}
+use Rattle.std.specs.Prelude.{Result, Ok, Err, OkIff}
+use Rattle.std.specs.Result.{result_ok}
+use Rattle.std.proofs.lemmas.Result.{OkIff-at_ok, OkIff-at_err}
 use Rattle.sheet.specs.Line.{Line}
 use Rattle.chase.specs.Rules.{Rule, rules_of}
 use Rattle.arithmetic.specs.Capped.{capped, polynomial}
 use Rattle.arithmetic.proofs.CappedLaws.{capped_once, plus_alike, polynomial_alike}
-use Rattle.growth.specs.Forecast.{sum_of, new_with, values_after, first_t, last_t, kind_lines, records_with, pairs_with, Figure, figure, Forecast, forecast}
-use Rattle.growth.proofs.GrowthLaws.{figure_beyond}
+use Rattle.growth.specs.Forecast.{sum_of, new_with, values_after, first_t, last_t, kind_lines, records_with, pairs_with, Figure, exactly, figure, Forecast, forecast}
+use Rattle.growth.proofs.GrowthLaws.{figure_exactly, figure_beyond}
+use Rattle.forecasting.specs.Answer.{figure_of}
 use Rattle.forecasting.specs.Inner.Terms.{KindsCounted, RulesCounted, grown}
 use Rattle.forecasting.specs.declared.terms.RuleTerms.{RuleTerms}
+
+-- A number that fits 32 bits is its figure, one that doesn't is beyond.
+pub figure_read : {E : Type 0} (n : ℕ) (r : Result ℕ E) → OkIff r (n < 4294967296) n → figure_of (result_ok r) ≡ figure n
+figure_read {E} n (Ok m) h =
+    let (low, is) = OkIff-at_ok {E = E} (Ok m) (n < 4294967296) n m h refl in
+    ap exactly is ∙ sym (figure_exactly n (omega arith))
+figure_read {E} n (Err e) h =
+    let over = OkIff-at_err {E = E} (Err e) (n < 4294967296) n e h refl in
+    sym (figure_beyond n (omega (arith, over)))
 
 -- Numbers that are equal up to the cap have the same figure.
 pub figure_alike : (a b : ℕ) → capped a ≡ capped b → figure a ≡ figure b

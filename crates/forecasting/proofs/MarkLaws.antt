@@ -7,9 +7,11 @@ use native.Mathlib.Decide.{ℕ_discrete}
 use native.Mathlib.Numerals.{add-one}
 use native.Mathlib.Omega.{arith}
 use lib.ListN.{length, get_or, take, set, length-set}
-use lib.Seq.{take-suc, take_all, get_or-set_same, get_or-set_other}
+use lib.Seq.{get_or-set_same, get_or-set_other}
+use Rattle.std.specs.Prelude.{replicate}
+use Rattle.std.proofs.lemmas.List.{take_more, take_all, get_or-replicate}
 use Rattle.sheet.specs.Line.{B, H}
-use Rattle.chase.specs.Lists.{In}
+use Rattle.chase.specs.Lists.{In, All}
 use Rattle.chase.specs.Rules.{Rule, marks_of}
 use Rattle.chase.specs.Making.{carried_marks}
 use Rattle.chase.specs.Counting.{Count}
@@ -20,9 +22,10 @@ use Rattle.growth.proofs.Theorems.{fresh_counts, carried_counts}
 use Rattle.rules.specs.Table.{SheetHeld, MarksFit}
 use Rattle.rules.specs.Inner.Bytes.{marks_at, heads_at, LineIn, head_count}
 use Rattle.rules.proofs.SheetLaws.{size_held}
-use Rattle.rules.proofs.ByteLaws.{Counts, counts_begun, counts_done, counts_stop, counts_more, mark_there, marks_small}
-use Rattle.rules.proofs.PartLaws.{heads_each, zeros, zero_at}
+use Rattle.rules.proofs.PartLaws.{heads_each}
 use Rattle.rules.proofs.TableLaws.{HeadsSeen, heads_begun, heads_done, heads_stop, heads_more, RuleHere, rule-here}
+use Rattle.forecasting.specs.declared.marks.Mark.{Mark}
+use Rattle.forecasting.specs.declared.marks.Mark.TheVariants.{Nowhere, InBody, InHead}
 use Rattle.forecasting.specs.declared.marks.MarkCounts.{MarkCounts}
 use Rattle.forecasting.specs.Inner.Marks.{StateOf, Counted, HeadsCounted, MarkMet}
 use Rattle.forecasting.specs.Inner.Terms.{rule_here, MarksCounted}
@@ -84,37 +87,37 @@ module _ (Q : ℕ → Type 0) where
 -- ---- one mark more
 
 -- The states once one mark's is set, where what is said of the others is still so.
-states_set : (body heads body2 heads2 met : List ℕ) (m x : ℕ) → length met ≡ 13 → m ≤ 12 → StateOf body2 heads2 m x
-    → ((j s : ℕ) → (j ≡ m → ⊥) → StateOf body heads j s → StateOf body2 heads2 j s)
-    → ((j : ℕ) → j ≤ 12 → StateOf body heads j (get_or met j 0)) → (j : ℕ) → j ≤ 12 → StateOf body2 heads2 j (get_or (set met m x) j 0)
+states_set : (body heads body2 heads2 : List ℕ) (met : List Mark) (m : ℕ) (x : Mark) → length met ≡ 13 → m ≤ 12 → StateOf body2 heads2 m x
+    → ((j : ℕ) (s : Mark) → (j ≡ m → ⊥) → StateOf body heads j s → StateOf body2 heads2 j s)
+    → ((j : ℕ) → j ≤ 12 → StateOf body heads j (get_or met j Nowhere)) → (j : ℕ) → j ≤ 12 → StateOf body2 heads2 j (get_or (set met m x) j Nowhere)
 states_set body heads body2 heads2 met m x size low here others states j h = go (ℕ_discrete j m)
   where
-    go : Dec (j ≡ m) → StateOf body2 heads2 j (get_or (set met m x) j 0)
+    go : Dec (j ≡ m) → StateOf body2 heads2 j (get_or (set met m x) j Nowhere)
     go (yes e) =
-        subst (λ z. StateOf body2 heads2 z (get_or (set met m x) z 0)) (sym e)
-        (subst (StateOf body2 heads2 m) (sym (get_or-set_same met m x 0 (omega arith))) here)
-    go (no d) = subst (StateOf body2 heads2 j) (sym (get_or-set_other met m j x 0 d)) (others j (get_or met j 0) d (states j h))
+        subst (λ z. StateOf body2 heads2 z (get_or (set met m x) z Nowhere)) (sym e)
+        (subst (StateOf body2 heads2 m) (sym (get_or-set_same met m x Nowhere (omega arith))) here)
+    go (no d) = subst (StateOf body2 heads2 j) (sym (get_or-set_other met m j x Nowhere d)) (others j (get_or met j Nowhere) d (states j h))
 
-pub counted_none : Counted [] [] (zeros 13) 0 0
+pub counted_none : Counted [] [] (replicate 13 Nowhere) 0 0
 counted_none =
     record {
       size = refl;
       small = λ m i. absurd i;
       states = λ m h.
-          subst (StateOf [] [] m) (sym (zero_at 13 m))
-          (record { nowhere = λ e. ((λ i. i), λ i. i); in_body = λ e. absurd (omega arith); in_head = λ d f. absurd (d refl) });
+          subst (StateOf [] [] m) (sym (get_or-replicate 13 m Nowhere Nowhere (omega arith)))
+          (record { nowhere = λ e. ((λ i. i), λ i. i); in_body = λ e. absurd (grind arith); in_head = λ e. absurd (grind arith) });
       fresh_ones = count_none (NotIn []);
       carried_ones = count_none (IsIn []);
     }
 
 -- A mark of the B line.
-counted-body : {body met : List ℕ} → Counted body [] met 0 0 → (m : ℕ) → m ≤ 12 → Counted (body ++ (m ∷ [])) [] (set met m 1) 0 0
+counted-body : {body : List ℕ} {met : List Mark} → Counted body [] met 0 0 → (m : ℕ) → m ≤ 12 → Counted (body ++ (m ∷ [])) [] (set met m InBody) 0 0
 counted-body {body} {met} c m low =
     record {
-      size = length-set met m 1 ∙ c.size;
+      size = length-set met m InBody ∙ c.size;
       small = λ x i. absurd i;
-      states = states_set body [] (body ++ (m ∷ [])) [] met m 1 c.size low
-          (record { nowhere = λ e. absurd (omega arith); in_body = λ e. ((λ i. i), last-in m body); in_head = λ d f. absurd (f refl) })
+      states = states_set body [] (body ++ (m ∷ [])) [] met m InBody c.size low
+          (record { nowhere = λ e. absurd (grind arith); in_body = λ e. ((λ i. i), last-in m body); in_head = λ e. absurd (grind arith) })
           (λ j s d o.
           record {
             nowhere = λ e. ((λ i. i), λ i. (o.nowhere e).1 (in_before j m body d i));
@@ -126,27 +129,27 @@ counted-body {body} {met} c m low =
       carried_ones = count_none (IsIn (body ++ (m ∷ [])));
     }
 
-module _ {body heads met : List ℕ} {fresh carried : ℕ} (c : Counted body heads met fresh carried) where
+module _ {body heads : List ℕ} {met : List Mark} {fresh carried : ℕ} (c : Counted body heads met fresh carried) where
   pub counted_few : (fresh ≤ 12) × (carried ≤ 12)
   counted_few =
       let from : (m : ℕ) → In m heads → In m (numbers_to 12) = λ m i. in_numbers_to 12 m (c.small m i).0 (c.small m i).1 in
       (count_within c.fresh_ones (numbers_to 12) (λ m p. from m p.0), count_within c.carried_ones (numbers_to 12) (λ m p. from m p.0))
 
   module _ (m : ℕ) (low : (1 ≤ m) × (m ≤ 12)) where
-    -- A mark of an H line has been met afterwards, whatever its state was.
+    -- A mark of an H line has been met afterwards, wherever it was met before.
     counted_head : {new old : ℕ} → Count (Among (NotIn body) (heads ++ (m ∷ []))) new → Count (Among (IsIn body) (heads ++ (m ∷ []))) old
-        → Counted body (heads ++ (m ∷ [])) (set met m 2) new old
+        → Counted body (heads ++ (m ∷ [])) (set met m InHead) new old
     counted_head new old =
         record {
-          size = length-set met m 2 ∙ c.size;
+          size = length-set met m InHead ∙ c.size;
           small = λ x i. elim (in_last x m heads i) [ inl j ↦ c.small x j | inr e ↦ subst (λ z. (1 ≤ z) × (z ≤ 12)) (sym e) low ];
-          states = states_set body heads body (heads ++ (m ∷ [])) met m 2 c.size low.1
-              (record { nowhere = λ e. absurd (omega arith); in_body = λ e. absurd (omega arith); in_head = λ d f. last-in m heads })
+          states = states_set body heads body (heads ++ (m ∷ [])) met m InHead c.size low.1
+              (record { nowhere = λ e. absurd (grind arith); in_body = λ e. absurd (grind arith); in_head = λ e. last-in m heads })
               (λ j s d o.
               record {
                 nowhere = λ e. ((λ i. (o.nowhere e).0 (in_before j m heads d i)), (o.nowhere e).1);
                 in_body = λ e. ((λ i. (o.in_body e).0 (in_before j m heads d i)), (o.in_body e).1);
-                in_head = λ p q. in_left j heads (m ∷ []) (o.in_head p q);
+                in_head = λ e. in_left j heads (m ∷ []) (o.in_head e);
               })
               c.states;
           fresh_ones = new;
@@ -154,95 +157,63 @@ module _ {body heads met : List ℕ} {fresh carried : ℕ} (c : Counted body hea
         }
 
 -- It counts as fresh, as carried, or not again.
-counted_met : {body heads met : List ℕ} {before after : MarkCounts} → Counted body heads met before.fresh before.carried
-    → (m : ℕ) → (1 ≤ m) × (m ≤ 12) → MarkMet (get_or met m 0) before after
-    → Counted body (heads ++ (m ∷ [])) (set met m 2) after.fresh after.carried
-counted_met {body} {heads} {met} {before} {after} c m low a = go (ℕ_discrete (get_or met m 0) 0) (ℕ_discrete (get_or met m 0) 1)
+counted_met : {body heads : List ℕ} {met : List Mark} {before after : MarkCounts} → Counted body heads met before.fresh before.carried
+    → (m : ℕ) → (1 ≤ m) × (m ≤ 12) → MarkMet (get_or met m Nowhere) before after
+    → Counted body (heads ++ (m ∷ [])) (set met m InHead) after.fresh after.carried
+counted_met {body} {heads} {met} {before} {after} c m low a = go (get_or met m Nowhere) (c.states m low.1) a
   where
-    state : StateOf body heads m (get_or met m 0)
-    state = c.states m low.1
-
     as_counted : {new old : ℕ} → (after.fresh ≡ new) × (after.carried ≡ old) → Count (Among (NotIn body) (heads ++ (m ∷ []))) new
-        → Count (Among (IsIn body) (heads ++ (m ∷ []))) old → Counted body (heads ++ (m ∷ [])) (set met m 2) after.fresh after.carried
+        → Count (Among (IsIn body) (heads ++ (m ∷ []))) old → Counted body (heads ++ (m ∷ [])) (set met m InHead) after.fresh after.carried
     as_counted e new old =
         counted_head c m low (subst (Count (Among (NotIn body) (heads ++ (m ∷ [])))) (sym e.0) new)
         (subst (Count (Among (IsIn body) (heads ++ (m ∷ [])))) (sym e.1) old)
 
-    go : Dec (get_or met m 0 ≡ 0) → Dec (get_or met m 0 ≡ 1) → Counted body (heads ++ (m ∷ [])) (set met m 2) after.fresh after.carried
-    go (yes z) q =
-        let (new, not) = state.nowhere z in
-        as_counted (a.nowhere z) (count_more (NotIn body) heads m c.fresh_ones new not)
+    go : (s : Mark) → StateOf body heads m s → MarkMet s before after → Counted body (heads ++ (m ∷ [])) (set met m InHead) after.fresh after.carried
+    go Nowhere state a =
+        let (new, not) = state.nowhere refl in
+        as_counted (a.nowhere refl) (count_more (NotIn body) heads m c.fresh_ones new not)
         (count_same (IsIn body) heads m c.carried_ones (λ i. absurd (not i)))
-    go (no d) (yes o) =
-        let (new, there) = state.in_body o in
-        as_counted (a.in_body o) (count_same (NotIn body) heads m c.fresh_ones (λ i. absurd (i there)))
+    go InBody state a =
+        let (new, there) = state.in_body refl in
+        as_counted (a.in_body refl) (count_same (NotIn body) heads m c.fresh_ones (λ i. absurd (i there)))
         (count_more (IsIn body) heads m c.carried_ones new there)
-    go (no d) (no f) =
-        let met-before = state.in_head d f in
-        as_counted (a.in_head d f) (count_same (NotIn body) heads m c.fresh_ones (λ i. met-before))
+    go InHead state a =
+        let met-before = state.in_head refl in
+        as_counted (a.in_head refl) (count_same (NotIn body) heads m c.fresh_ones (λ i. met-before))
         (count_same (IsIn body) heads m c.carried_ones (λ i. met-before))
 
 -- ---- the marks of a line one by one
 
--- The first i marks of a line are passed, and C holds of them.
-pub record Passed (numbers : List ℕ) (line i : ℕ) (C : List ℕ → Type 0) : Type 0 where
-  pub counts : Counts numbers line i
-  pub holds : C (take i (marks_at numbers line))
-
-pub passed_none : (numbers : List ℕ) (line : ℕ) {C : List ℕ → Type 0} → C [] → Passed numbers line 0 C
-passed_none numbers line c = record { counts = counts_begun numbers line; holds = c }
-
-module _ {numbers : List ℕ} {line i : ℕ} {C : List ℕ → Type 0} (p : Passed numbers line i C) where
-  passed_all : i ≡ length (marks_at numbers line) → C (marks_at numbers line)
-  passed_all e = subst C (take_all i (marks_at numbers line) (omega arith)) p.holds
-
-  pub passed_done : 6 ≤ i → C (marks_at numbers line)
-  passed_done h = passed_all (counts_done p.counts h)
-
-  module _ (inside : LineIn numbers line) (here : i < 6) {mark : ℕ} (is : mark ≡ get_or numbers (8 * line + 2 + i) 0) where
-    pub passed_stop : mark ≡ 0 → C (marks_at numbers line)
-    passed_stop e = passed_all (counts_stop inside here p.counts (sym is ∙ e))
-
-    module _ (some : mark ≡ 0 → ⊥) where
-      next : Counts numbers line (i + 1)
-      next = counts_more inside here p.counts (λ e. some (is ∙ e))
-
-      within : i < length (marks_at numbers line)
-      within = let e = next.same in omega arith
-
-      pub mark_low : MarksFit (marks_at numbers line) → (1 ≤ mark) × (mark ≤ 12)
-      mark_low f = (omega arith, omega (arith, mark_there numbers line i within, marks_small (marks_at numbers line) f.each i))
-
-      passed_more : {D : List ℕ → Type 0} → D (take i (marks_at numbers line) ++ (mark ∷ [])) → Passed numbers line (i + 1) D
-      passed_more {D} d =
-          let e : take (i + 1) (marks_at numbers line) ≡ take i (marks_at numbers line) ++ (mark ∷ []) =
-          ap (λ k. take k (marks_at numbers line)) (add-one i)
-          ∙ take-suc (marks_at numbers line) i 0 within
-          ∙ ap (λ x. take i (marks_at numbers line) ++ (x ∷ [])) (mark_there numbers line i within ∙ sym is) in
-          record { counts = next; holds = subst D (sym e) d }
+-- Marks of a sheet are 1 to 12.
+pub mark_low : {marks : List ℕ} (i : ℕ) → i < length marks → MarksFit marks → (1 ≤ get_or marks i 0) × (get_or marks i 0 ≤ 12)
+mark_low {marks} i inside f = go marks i inside f.each
+  where
+    go : (ms : List ℕ) (i : ℕ) → i < length ms → All (λ m. (1 ≤ m) × (m ≤ 12)) ms → (1 ≤ get_or ms i 0) × (get_or ms i 0 ≤ 12)
+    go [] i inside each = absurd (omega arith)
+    go (m ∷ ms) zero inside each = each.0
+    go (m ∷ ms) (suc i) inside each = go ms i (omega arith) each.1
 
 -- The marks of a B line.
-abbrev pub BodyCounted : List ℕ → List ℕ → Type 0
-BodyCounted met marks = Counted marks [] met 0 0
+pub body_more : {marks : List ℕ} {i : ℕ} {met : List Mark} → Counted (take i marks) [] met 0 0 → i < length marks → MarksFit marks
+    → Counted (take (i + 1) marks) [] (set met (get_or marks i 0) InBody) 0 0
+body_more {marks} {i} c inside fits = rw (take_more marks i 0 inside) (counted-body c (get_or marks i 0) (mark_low i inside fits).1)
 
-pub body_more : {numbers : List ℕ} {n i : ℕ} {met : List ℕ} → Passed numbers n i (BodyCounted met) → LineIn numbers n → MarksFit (marks_at numbers n)
-    → i < 6 → {mark : ℕ} → mark ≡ get_or numbers (8 * n + 2 + i) 0 → (mark ≡ 0 → ⊥) → Passed numbers n (i + 1) (BodyCounted (set met mark 1))
-body_more p inside fits here {mark} is some =
-    passed_more p inside here is some (counted-body p.holds mark (mark_low p inside here is some fits).1)
+pub body_all : {marks these : List ℕ} {i : ℕ} {met : List Mark} → Counted (take i marks) [] met 0 0 → length marks ≤ i → marks ≡ these
+    → Counted these [] met 0 0
+body_all {marks} {i = i} {met} c over is = subst (λ l. Counted l [] met 0 0) (take_all i marks over ∙ is) c
 
 -- The marks of an H line.
-pub head_more : {numbers : List ℕ} {n h line i : ℕ} {met : List ℕ} {before after : MarkCounts}
-    → Passed numbers line i (HeadsCounted numbers n h met before) → LineIn numbers line → MarksFit (marks_at numbers line)
-    → i < 6 → {mark : ℕ} → mark ≡ get_or numbers (8 * line + 2 + i) 0 → (mark ≡ 0 → ⊥) → MarkMet (get_or met mark 0) before after
-    → Passed numbers line (i + 1) (HeadsCounted numbers n h (set met mark 2) after)
-head_more {numbers} {n} {h} {line} {i} {met} {before} {after} p inside fits here {mark} is some a =
-    passed_more p inside here is some
-    (record {
+pub head_more : {numbers : List ℕ} {n h : ℕ} {marks : List ℕ} {i : ℕ} {met : List Mark} {before after : MarkCounts}
+    → HeadsCounted numbers n h met before (take i marks) → i < length marks → MarksFit marks → MarkMet (get_or met (get_or marks i 0) Nowhere) before after
+    → HeadsCounted numbers n h (set met (get_or marks i 0) InHead) after (take (i + 1) marks)
+head_more {numbers} {n} {h} {marks} {i} {met} {before} {after} s inside fits a =
+    record {
       counted =
-          subst (λ l. Counted (marks_at numbers n) l (set met mark 2) after.fresh after.carried)
-          (append_assoc (marks_of (heads_at numbers (n + 1) h)) (take i (marks_at numbers line)) (mark ∷ []))
-          (counted_met p.holds.counted mark (mark_low p inside here is some fits) a);
-    })
+          subst (λ l. Counted (marks_at numbers n) l (set met (get_or marks i 0) InHead) after.fresh after.carried)
+          (append_assoc (marks_of (heads_at numbers (n + 1) h)) (take i marks) (get_or marks i 0 ∷ [])
+          ∙ ap (λ (ms : List ℕ). marks_of (heads_at numbers (n + 1) h) ++ ms) (sym (take_more marks i 0 inside)))
+          (counted_met s.counted (get_or marks i 0) (mark_low i inside fits) a);
+    }
 
 marks_next : (numbers : List ℕ) (h n : ℕ) → marks_of (heads_at numbers n (suc h)) ≡ marks_of (heads_at numbers n h) ++ marks_at numbers (n + h)
 marks_next numbers zero n = append-nil (marks_at numbers n) ∙ ap (marks_at numbers) (let z : n ≡ n + 0 = omega arith in z)
@@ -253,7 +224,7 @@ marks_next numbers (suc h) n =
     ∙ sym (append_assoc (marks_at numbers n) (marks_of (heads_at numbers (n + 1) h)) (marks_at numbers (n + suc h)))
 
 -- All its marks are passed.
-pub head_all : {numbers : List ℕ} {n h : ℕ} {met : List ℕ} {c : MarkCounts} {marks : List ℕ} → HeadsCounted numbers n h met c marks
+head_all : {numbers : List ℕ} {n h : ℕ} {met : List Mark} {c : MarkCounts} {marks : List ℕ} → HeadsCounted numbers n h met c marks
     → marks ≡ marks_at numbers (n + 1 + h) → HeadsCounted numbers n (h + 1) met c []
 head_all {numbers} {n} {h} {met} {c} s e =
     record {
@@ -266,10 +237,14 @@ head_all {numbers} {n} {h} {met} {c} s e =
           s.counted;
     }
 
+pub head_over : {numbers : List ℕ} {n h : ℕ} {met : List Mark} {c : MarkCounts} {marks : List ℕ} {i : ℕ} → HeadsCounted numbers n h met c (take i marks)
+    → length marks ≤ i → marks ≡ marks_at numbers (n + 1 + h) → HeadsCounted numbers n (h + 1) met c []
+head_over {marks = marks} {i} s over is = head_all s (take_all i marks over ∙ is)
+
 -- ---- the H lines of a rule
 
 -- The first h H lines of the rule at line n are passed.
-pub record HeadsPassed (numbers : List ℕ) (n h : ℕ) (met : List ℕ) (c : MarkCounts) : Type 0 where
+pub record HeadsPassed (numbers : List ℕ) (n h : ℕ) (met : List Mark) (c : MarkCounts) : Type 0 where
   pub seen : HeadsSeen numbers (n + 1) (n + 1 + h)
   pub so_far : HeadsCounted numbers n h met c []
 
@@ -291,14 +266,14 @@ module _ {numbers : List ℕ} (n : ℕ) (asked : SheetHeld numbers × (8 * n < l
   pub body_asks : LineIn numbers n × MarksFit (marks_at numbers n)
   body_asks = (omega (arith, here.next, size_held asked.0), here.fits.marks)
 
-  pub heads_none : {met : List ℕ} → Counted (marks_at numbers n) [] met 0 0 → HeadsPassed numbers n 0 met (record { fresh = 0; carried = 0 })
+  pub heads_none : {met : List Mark} → Counted (marks_at numbers n) [] met 0 0 → HeadsPassed numbers n 0 met (record { fresh = 0; carried = 0 })
   heads_none s =
       record {
         seen = subst (HeadsSeen numbers (n + 1)) (let z : n + 1 ≡ n + 1 + 0 = omega arith in z) (heads_begun asked.0 (n + 1) here.next);
         so_far = record { counted = s };
       }
 
-  module _ {h : ℕ} {met : List ℕ} {c : MarkCounts} (p : HeadsPassed numbers n h met c) where
+  module _ {h : ℕ} {met : List Mark} {c : MarkCounts} (p : HeadsPassed numbers n h met c) where
     module _ (inside : 8 * (n + 1 + h) < length numbers) (head : get_or numbers (8 * (n + 1 + h)) 0 ≡ H) where
       next_seen : HeadsSeen numbers (n + 1) (n + 1 + (h + 1))
       next_seen =
@@ -314,7 +289,7 @@ module _ {numbers : List ℕ} (n : ℕ) (asked : SheetHeld numbers × (8 * n < l
             p.so_far,
           )
 
-      pub heads_next : {met2 : List ℕ} {after : MarkCounts} → HeadsCounted numbers n (h + 1) met2 after [] → HeadsPassed numbers n (h + 1) met2 after
+      pub heads_next : {met2 : List Mark} {after : MarkCounts} → HeadsCounted numbers n (h + 1) met2 after [] → HeadsPassed numbers n (h + 1) met2 after
       heads_next s = record { seen = next_seen; so_far = s }
 
     heads_all : n + 1 + h - (n + 1) ≡ head_count numbers (n + 1) → MarksCounted numbers n c

@@ -2,7 +2,7 @@
 use mathlib.Core.Path.{◌≡◌, refl, sym, ◌∙◌, ap, ap₂, subst}
 use mathlib.Core.Bool.{Bool, true, false, cond, ◌&&◌}
 use mathlib.Core.List.{List, [], ◌∷◌}
-use Prim.Native.Nat.{ℕ, zero, suc, ◌+◌, ◌*◌, ◌≤◌, ◌<◌}
+use Prim.Native.Nat.{ℕ, zero, suc, ◌+◌, ◌*◌, ◌/◌, ◌≤◌, ◌<◌}
 use native.Mathlib.Nat.{mul-zero, mul-suc, mul-add, mul_left_comm, one-mul}
 use native.Mathlib.Decide.{ℕ_discrete}
 use native.Mathlib.Numerals.{add-one}
@@ -23,6 +23,12 @@ use Rattle.arithmetic.specs.Capped.{polynomial}
 use Rattle.growth.specs.Forecast.{power, sum_of, new_with, kind_lines, width_in}
 use Rattle.forecasting.specs.Inner.Terms.{rule_here, MarksCounted, KindsCounted, RulesCounted}
 use Rattle.forecasting.specs.declared.marks.MarkCounts.{MarkCounts}
+
+-- ---- lines
+
+-- Where all lines are counted none is left.
+pub line_over : {numbers : List ℕ} {n count : ℕ} → SheetHeld numbers → count ≡ length numbers / 8 → count ≤ n → length numbers ≤ 8 * n
+line_over held is h = omega (arith, size_held held)
 
 -- ---- coefficients
 

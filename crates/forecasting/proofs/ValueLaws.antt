@@ -1,32 +1,38 @@
 -- Different values: looked for, added, and counted row by row. Assumes nothing.
-use mathlib.Core.Path.{◌≡◌, refl, sym, ◌∙◌, ap, subst}
+use mathlib.Core.Path.{◌≡◌, refl, sym, ◌∙◌, ap}
 use mathlib.Core.Logic.{inl, inr}
-use mathlib.Core.Bool.{true, false}
+use mathlib.Core.Bool.{true, false, cond}
 use mathlib.Core.List.{List, [], ◌∷◌, ◌++◌, append-nil, append_assoc}
-use Prim.Native.Nat.{ℕ, suc, ◌+◌, ◌*◌, ◌-◌, ◌/◌, ◌%◌, ◌≤◌, ◌<◌}
+use Prim.Native.Nat.{ℕ, zero, suc, ◌+◌, ◌*◌, ◌-◌, ◌/◌, ◌%◌, ◌≤◌, ◌<◌}
 use native.Mathlib.Decide.{ℕ_discrete}
-use native.Mathlib.Numerals.{add-one}
 use native.Mathlib.Omega.{arith}
 use borrow.Author.Tests.{eq-eqb, ne_eqb}
-use lib.ListN.{length, get_or, set, take, drop, length-set, length-append, drop_of_length-le}
-use lib.Seq.{get_or-set_same, get_or-set_other, take-suc, take_all}
+use lib.ListN.{length, get_or, set, take, drop, length-set, drop_of_length-le}
+use lib.Seq.{get_or-set_same, get_or-set_other, take_all}
+use Rattle.std.specs.Prelude.{◌==◌, count_by}
+use Rattle.std.proofs.lemmas.List.{take_more, take_more_set, length-take-le}
+use Rattle.std.proofs.lemmas.List.Recursion.{is_count_by}
+use Rattle.std.proofs.lemmas.List.Sums.{count_by-le-length}
 use Rattle.sheet.specs.Line.{R, Line}
-use Rattle.chase.specs.Lists.{In}
+use Rattle.patterns.specs.Lists.{In}
+use Rattle.patterns.specs.Pattern.{pick, add, add_all}
+use Rattle.patterns.proofs.PatternLaws.{length-add_all}
 use Rattle.chase.specs.Rules.{row_lines}
-use Rattle.patterns.proofs.ListLaws.{in_left, in_right, in_append}
 use Rattle.rules.specs.Table.{SheetHeld, lines_in}
 use Rattle.rules.specs.Inner.Bytes.{Clear}
 use Rattle.rules.specs.Inner.Rows.{row_numbers}
-use Rattle.rules.proofs.SheetLaws.{line_no, lent_line, held_lines, size_held, rows_few, rows_where}
+use Rattle.rules.proofs.SheetLaws.{line_no, LentLine, lent_line, held_lines, size_held, rows_few, rows_where}
 use Rattle.rules.proofs.PartLaws.{zeros}
-use Rattle.rules.proofs.RowLaws.{Reading, reading_begun, row_width, row_at, read_row}
+use Rattle.rules.proofs.RowLaws.{Reading, reading_begun, kind_low, row_width, row_at, read_row, read_kind, read_other}
 use Rattle.chains.specs.Inner.Chains.{FoundAt}
 use Rattle.chains.proofs.ChainLaws.{Searching, search_begin, search_place, search_next, search_less, found_here, found_nowhere, chains_push, chains_alike}
 use Rattle.growth.specs.Forecast.{first_t}
 use Rattle.carrying.specs.Carrying.{zeros as zeros_in}
-use Rattle.carrying.proofs.FilledLaws.{zeros-append, one_zero, no_zero_there}
-use Rattle.growth.proofs.LoopLaws.{different, different_old, different_new, numbers_of, first_by_numbers}
-use Rattle.forecasting.specs.Inner.Values.{bucket_of, bucket_at, IsAt, Stored, AreOf, Added, ValuesAre}
+use Rattle.carrying.proofs.FilledLaws.{zeros-append}
+use Rattle.sheet.proofs.LentLines.{Eight}
+use Rattle.growth.proofs.LineLaws.{line_there, number_at, kind_at, letter_at, fields_at}
+use Rattle.growth.proofs.LoopLaws.{different, add_all-append, numbers_of, first_by_numbers}
+use Rattle.forecasting.specs.Inner.Values.{bucket_of, bucket_at, IsAt, Stored, ValuesAre}
 
 pub bucket_is : (by x : ℕ) → x * by % 4294967296 / 1048576 ≡ bucket_of by x
 unfolding bucket_of
@@ -80,143 +86,124 @@ stored_none mixing room clear size =
       };
     }
 
-pub none_are : (values : List ℕ) → AreOf values 0 []
-none_are values = record { counted = refl; among = λ i h. absurd (omega arith); held = λ x i. absurd i }
+-- What is nowhere is put at the end.
+add_last : (x : ℕ) (l : List ℕ) → (In x l → ⊥) → add ℕ_discrete x l ≡ l ++ (x ∷ [])
+add_last x [] h = refl
+add_last x (y ∷ l) h = go (ℕ_discrete x y) (add_last x l (λ i. h (inr i)))
+  where
+    go : (p : Dec (x ≡ y)) → add ℕ_discrete x l ≡ l ++ (x ∷ []) → pick p (y ∷ l) (y ∷ add ℕ_discrete x l) ≡ y ∷ (l ++ (x ∷ []))
+    go (yes p) later = absurd (h (inl p))
+    go (no k) later = ap (λ (m : List ℕ). y ∷ m) later
 
-pub added_none : {by : ℕ} {values heads next : List ℕ} {count : ℕ} → Stored by values heads next count → Added by values count [] values heads next count
-added_none {values = values} {count = count} s =
-    record { stored = s; few = omega arith; are = λ before a. subst (AreOf values count) (sym (append-nil before)) a }
+-- A value at a place is among those held, and one among them is at a place.
+pub at_place : (values : List ℕ) (count x i : ℕ) → i < count → count ≤ length values → IsAt values x i → In x (take count values)
+at_place [] count x i h room e = absurd (omega arith)
+at_place (v ∷ values) zero x i h room e = absurd (omega arith)
+at_place (v ∷ values) (suc count) x zero h room e = inl (sym e)
+at_place (v ∷ values) (suc count) x (suc i) h room e = inr (at_place values count x i (omega arith) (omega arith) e)
 
--- One value more, which is there or nowhere.
-module _ {by : ℕ} {values heads next : List ℕ} {count : ℕ} (s : Stored by values heads next count) (x : ℕ) where
-  pub added_there : (at : ℕ) → at < count → IsAt values x at → Added by values count (x ∷ []) values heads next count
-  added_there at h e = record { stored = s; few = omega arith; are = λ before a. more before a }
-    where
-      more : (before : List ℕ) → AreOf values count before → AreOf values count (before ++ (x ∷ []))
-      more before a =
+pub some_place : (values : List ℕ) (count x : ℕ) → In x (take count values) → (i : ℕ) × (i < count) × IsAt values x i
+some_place values zero x m = absurd m
+some_place [] (suc count) x m = absurd m
+some_place (v ∷ values) (suc count) x (inl e) = (0, omega arith, sym e)
+some_place (v ∷ values) (suc count) x (inr m) = let (i, h, e) = some_place values count x m in (suc i, omega arith, e)
+
+module _ {by : ℕ} {values heads next : List ℕ} {count : ℕ} (s : Stored by values heads next count) where
+  pub size_of : length (take count values) ≡ count
+  size_of = length-take-le count values (omega (arith, s.room, s.chain.small))
+
+  module _ (x : ℕ) where
+    pub found : (at : ℕ) → FoundAt (IsAt values x) count at → at < count → In x (take count values)
+    found at f h = at_place values count x at h (omega (arith, s.room, s.chain.small)) (f.there h)
+
+    pub found_none : FoundAt (IsAt values x) count count → In x (take count values) → ⊥
+    found_none f m = let (i, h, e) = some_place values count x m in f.nowhere refl i h e
+
+    -- One value more.
+    module _ (free : count < 6144) (b : ℕ) (own : b ≡ bucket_of by x) (fits : b < 4096) where
+      abbrev put : List ℕ
+      put = set values count x
+
+      old : (i : ℕ) → i < count → get_or put i 0 ≡ get_or values i 0
+      old i h = get_or-set_other values count i x 0 (λ e. omega arith)
+
+      new : get_or put count 0 ≡ x
+      new = get_or-set_same values count x 0 (omega (arith, s.room))
+
+      pub stored_new : Stored by put (set heads b (count + 1)) (set next count (get_or heads b 0)) (count + 1)
+      stored_new =
           record {
-            counted = a.counted ∙ sym (different_old ℕ_discrete before x (subst (λ (y : ℕ). In y before) e (a.among at h)));
-            among = λ i l. in_left (get_or values i 0) before (x ∷ []) (a.among i l);
-            held = λ y i. elim (in_append y before (x ∷ []) i) [ inl j ↦ a.held y j | inr j ↦ elim j [ inl p ↦ (at, h, e ∙ sym p) | inr q ↦ absurd q ] ];
-          }
-
-  module _ (free : count < 6144) (nowhere : (j : ℕ) → j < count → IsAt values x j → ⊥) (b : ℕ) (own : b ≡ bucket_of by x) (fits : b < 4096) where
-    abbrev put : List ℕ
-    put = set values count x
-
-    old : (i : ℕ) → i < count → get_or put i 0 ≡ get_or values i 0
-    old i h = get_or-set_other values count i x 0 (λ e. omega arith)
-
-    new : get_or put count 0 ≡ x
-    new = get_or-set_same values count x 0 (omega (arith, s.room))
-
-    pub added_new : Added by values count (x ∷ []) put (set heads b (count + 1)) (set next count (get_or heads b 0)) (count + 1)
-    added_new =
-        record {
-          stored = record {
             room = length-set values count x ∙ s.room;
             mixing = s.mixing;
             chain = chains_push (bucket_at by put) heads next count b
                 (chains_alike (bucket_at by values) (bucket_at by put) heads next count (λ j h. ap (bucket_of by) (sym (old j h))) s.chain) free
                 (own ∙ ap (bucket_of by) (sym new)) fits;
-          };
-          few = omega arith;
-          are = λ before a. more before a;
-        }
-      where
-        more : (before : List ℕ) → AreOf values count before → AreOf put (count + 1) (before ++ (x ∷ []))
-        more before a =
-            record {
-              counted = add-one count ∙ ap suc a.counted
-                  ∙ sym (different_new ℕ_discrete before x (λ i. let t = a.held x i in nowhere t.0 t.1 t.2));
-              among = λ i h. at i h (ℕ_discrete i count);
-              held = λ y i. elim (in_append y before (x ∷ []) i) [
-                | inl j ↦ let t = a.held y j in (t.0, omega (arith, t.1), old t.0 t.1 ∙ t.2)
-                | inr j ↦ elim j [ inl p ↦ (count, omega arith, new ∙ sym p) | inr q ↦ absurd q ]
-              ];
-            }
-          where
-            at : (i : ℕ) → i < count + 1 → Dec (i ≡ count) → In (get_or put i 0) (before ++ (x ∷ []))
-            at i h (yes p) = in_right (get_or put i 0) before (x ∷ []) (inl (ap (λ (k : ℕ). get_or put k 0) p ∙ new))
-            at i h (no q) =
-                subst (λ (y : ℕ). In y (before ++ (x ∷ []))) (sym (old i (omega arith)))
-                (in_left (get_or values i 0) before (x ∷ []) (a.among i (omega arith)))
+          }
 
--- Some values after others.
-pub added_then : {by : ℕ} {values : List ℕ} {count : ℕ} {xs values' heads' next' : List ℕ} {r : ℕ} → Added by values count xs values' heads' next' r
-    → {ys values'' heads'' next'' : List ℕ} {t : ℕ} → Added by values' r ys values'' heads'' next'' t → Added by values count (xs ++ ys) values'' heads'' next'' t
-added_then {xs = xs} l {ys} {values''} {t = t} m =
-    record {
-      stored = m.stored;
-      few = omega (arith, l.few, m.few, length-append xs ys);
-      are = λ before a. subst (AreOf values'' t) (append_assoc before xs ys) (m.are (before ++ xs) (l.are before a));
-    }
+      pub added_new : (In x (take count values) → ⊥) → take (count + 1) put ≡ add ℕ_discrete x (take count values)
+      added_new none = take_more_set values count x (omega (arith, s.room)) ∙ sym (add_last x (take count values) none)
 
--- The first k values of a row are added.
-module _ {by : ℕ} {values : List ℕ} {count : ℕ} (row : List ℕ) {k : ℕ} {values' heads' next' : List ℕ} {r : ℕ} (a : Added by values count (take k row) values' heads' next' r) where
-  pub added_more : k < length row → {values'' heads'' next'' : List ℕ} {t : ℕ} → Added by values' r (get_or row k 0 ∷ []) values'' heads'' next'' t
-      → Added by values count (take (k + 1) row) values'' heads'' next'' t
-  added_more h {values''} {heads''} {next''} {t} m =
-      subst (λ (xs : List ℕ). Added by values count xs values'' heads'' next'' t) (sym (ap (λ (j : ℕ). take j row) (add-one k) ∙ take-suc row k 0 h)) (added_then a m)
-
-  pub added_all : length row ≤ k → Added by values count row values' heads' next' r
-  added_all h = subst (λ (xs : List ℕ). Added by values count xs values' heads' next' r) (take_all k row h) a
+-- One value of a row more.
+pub add_all_more : (row : List ℕ) (k : ℕ) (l : List ℕ) → k < length row
+    → add_all ℕ_discrete (take (k + 1) row) l ≡ add ℕ_discrete (get_or row k 0) (add_all ℕ_discrete (take k row) l)
+add_all_more row k l h = ap (λ (xs : List ℕ). add_all ℕ_discrete xs l) (take_more row k 0 h) ∙ add_all-append ℕ_discrete (take k row) (get_or row k 0 ∷ []) l
 
 -- ---- the zeros of a row
 
--- How many of the first k values are 0.
-pub record ZerosTo (row : List ℕ) (k r : ℕ) : Type 0 where
-  pub within : k ≤ length row
-  pub are : r ≡ zeros_in (take k row)
-  pub few : r ≤ k
+pub zeros_counted : (xs : List ℕ) → zeros_in xs ≡ count_by (λ x. x == 0) xs
+zeros_counted xs = is_count_by zeros_in (λ x. x == 0) refl first xs
+  where
+    first : (x : ℕ) (xs : List ℕ) → zeros_in (x ∷ xs) ≡ cond (x == 0) (1 + zeros_in xs) (zeros_in xs)
+    first zero xs = omega arith
+    first (suc x) xs = grind arith
 
-pub zeros-none : (row : List ℕ) → ZerosTo row 0 0
-zeros-none row = record { within = omega arith; are = refl; few = omega arith }
-
-module _ {row : List ℕ} {k r : ℕ} (z : ZerosTo row k r) (h : k < length row) where
-  pub zeros_one : get_or row k 0 ≡ 0 → ZerosTo row (k + 1) (r + 1)
-  zeros_one e = record { within = omega arith; are = omega (arith, z.are, ap (λ (j : ℕ). zeros_in (take j row)) (add-one k), one_zero row k h e); few = omega (arith, z.few) }
-
-  pub zeros_other : (get_or row k 0 ≡ 0 → ⊥) → ZerosTo row (k + 1) r
-  zeros_other d = record { within = omega arith; are = omega (arith, z.are, ap (λ (j : ℕ). zeros_in (take j row)) (add-one k), no_zero_there row k d); few = omega (arith, z.few) }
-
-pub zeros_all : {row : List ℕ} {k r : ℕ} → ZerosTo row k r → length row ≤ k → (r ≡ zeros_in row) × (r ≤ length row)
-zeros_all {row} {k} z h = (z.are ∙ ap zeros_in (take_all k row h), omega (arith, z.few, z.within))
+pub zeros_few : (xs : List ℕ) → zeros_in xs ≤ length xs
+zeros_few xs = omega (arith, zeros_counted xs, count_by-le-length (λ x. x == 0) xs)
 
 -- ---- the rows
 
--- The part of the lines that has the values of the row at line n, whose kind has this width.
-abbrev pub row_part : List ℕ → ℕ → ℕ → List ℕ
-row_part lines n width = take (8 * n + 2 + width - (8 * n + 2)) (drop (8 * n + 2) lines)
+-- The part of a line that has the values of a row, whose kind has this width.
+abbrev pub row_part : List ℕ → ℕ → List ℕ
+row_part numbers width = take (2 + width - 2) (drop 2 numbers)
 
 -- The values of the rows among the first n lines are added.
-pub record Counting (lines widths : List ℕ) (by : ℕ) (values heads next : List ℕ) (count zeroes n : ℕ) : Type 0 where
+pub record Counting (lines widths held : List ℕ) (zeroes n : ℕ) : Type 0 where
   pub row : ℕ
   pub reading : Reading lines widths row n
-  pub stored : Stored by values heads next count
-  pub few : count ≤ 6 * row
+  pub few : length held ≤ 6 * row
   pub few_zeros : zeroes ≤ 6 * row
   pub past : List ℕ
-  pub are : AreOf values count past
+  pub are : held ≡ add_all ℕ_discrete past []
   pub zeros_are : zeroes ≡ zeros_in past
   pub rest : past ++ numbers_of (row_lines (drop n (lines_in lines))) ≡ numbers_of (row_lines (lines_in lines))
 
-pub count_none : (lines : List ℕ) {by : ℕ} {values heads next : List ℕ} → Stored by values heads next 0 → Counting lines (zeros 65) by values heads next 0 0 0
-count_none lines {values = values} s =
-    record { row = 0; reading = reading_begun lines; stored = s; few = omega arith; few_zeros = omega arith; past = []; are = none_are values; zeros_are = refl; rest = refl }
+pub count_none : (lines : List ℕ) {held : List ℕ} → held ≡ [] → Counting lines (zeros 65) held 0 0
+count_none lines e =
+    record { row = 0; reading = reading_begun lines; few = omega (arith, ap length e); few_zeros = omega arith; past = []; are = e; zeros_are = refl; rest = refl }
 
-module _ {lines widths : List ℕ} {by : ℕ} {values heads next : List ℕ} {count zeroes n : ℕ} (sheet : SheetHeld lines) (c : Counting lines widths by values heads next count zeroes n)
-    (more : 8 * n < length lines) where
+module _ {lines widths held : List ℕ} {zeroes n : ℕ} {numbers : List ℕ} (sheet : SheetHeld lines) (c : Counting lines widths held zeroes n)
+    (e : Eight lines n numbers) where
   abbrev line : Line
   line = line_no (lines_in lines) n
 
-  pub count_other : {widths' : List ℕ} → (get_or lines (8 * n) 0 ≡ 82 → ⊥) → Reading lines widths' c.row (n + 1) → Counting lines widths' by values heads next count zeroes (n + 1)
-  count_other e r =
-      let h = lent_line sheet n more in
+  here : LentLine lines n
+  here = lent_line sheet n (line_there e)
+
+  is_letter : {v : ℕ} → get_or numbers 0 0 ≡ v → get_or lines (8 * n) 0 ≡ v
+  is_letter h = sym (letter_at e) ∙ h
+
+  no_letter : {v : ℕ} → (get_or numbers 0 0 ≡ v → ⊥) → get_or lines (8 * n) 0 ≡ v → ⊥
+  no_letter d h = d (letter_at e ∙ h)
+
+  pub kind_small : get_or numbers 1 0 < 65
+  kind_small = omega (arith, kind_at e, kind_low lines widths c.row n sheet c.reading (line_there e))
+
+  -- A line that is no row.
+  count_other : {widths' : List ℕ} → (get_or lines (8 * n) 0 ≡ 82 → ⊥) → Reading lines widths' c.row (n + 1) → Counting lines widths' held zeroes (n + 1)
+  count_other d r =
       record {
         row = c.row;
         reading = r;
-        stored = c.stored;
         few = c.few;
         few_zeros = c.few_zeros;
         past = c.past;
@@ -224,64 +211,79 @@ module _ {lines widths : List ℕ} {by : ℕ} {values heads next : List ℕ} {co
         zeros_are = c.zeros_are;
         rest =
             ap (λ (ls : List Line). c.past ++ numbers_of ls)
-            (sym (rows_where (lines_in lines) n h.inside false (ne_eqb line.letter R (λ q. e (h.letter ∙ q))))) ∙ c.rest;
+            (sym (rows_where (lines_in lines) n here.inside false (ne_eqb line.letter R (λ q. d (here.letter ∙ q))))) ∙ c.rest;
       }
 
-  -- The row at an R line, whose kind has this width.
-  module _ (e : get_or lines (8 * n) 0 ≡ 82) (width : ℕ) (is-width : width ≡ get_or widths (get_or lines (8 * n + 1) 0) 0) where
-    width_is : width ≡ length line.numbers
-    width_is = is-width ∙ row_width lines widths c.row n sheet c.reading more e
+  pub count_kind : get_or numbers 0 0 ≡ 75 → Counting lines (set widths (get_or numbers 1 0) (get_or numbers 2 0)) held zeroes (n + 1)
+  count_kind h =
+      rw (kind_at e, number_at e 2 (omega arith))
+      (count_other (λ q. omega (arith, is_letter h, q)) (read_kind lines widths c.row n sheet c.reading (line_there e) (is_letter h)))
 
-    numbers_are : row_part lines n width ≡ line.numbers
-    numbers_are =
-        let e : 8 * n + 2 + width - (8 * n + 2) ≡ length line.numbers = omega (arith, width_is) in
-        ap (λ (w : ℕ). row_numbers lines n w) e ∙ (lent_line sheet n more).fields
+  pub count_passed : (get_or numbers 0 0 ≡ 75 → ⊥) → (get_or numbers 0 0 ≡ 82 → ⊥) → Counting lines widths held zeroes (n + 1)
+  count_passed k r = count_other (no_letter r) (read_other lines widths c.row n sheet c.reading (line_there e) (no_letter k) (no_letter r))
+
+  -- A row.
+  module _ (r : get_or numbers 0 0 ≡ 82) where
+    abbrev width : ℕ
+    width = get_or widths (get_or numbers 1 0) 0
+
+    width_is : width ≡ length line.numbers
+    width_is = ap (λ (k : ℕ). get_or widths k 0) (kind_at e) ∙ row_width lines widths c.row n sheet c.reading (line_there e) (is_letter r)
 
     pub width_few : width ≤ 6
-    width_few = omega (arith, width_is, (lent_line sheet n more).fits.few)
+    width_few = omega (arith, width_is, here.fits.few)
+
+    numbers_are : row_part numbers width ≡ line.numbers
+    numbers_are =
+        let all : 2 + width - 2 ≡ width = omega arith in
+        ap (λ (w : ℕ). take w (drop 2 numbers)) all ∙ fields_at e width width_few ∙ ap (λ (w : ℕ). row_numbers lines n w) width_is ∙ here.fields
+
+    pub row_low : c.row + 1 ≤ 1024
+    row_low = (row_at lines widths c.row n sheet c.reading (line_there e) (is_letter r)).low
 
     -- There is room for its values.
-    pub row_room : count + length (row_part lines n width) ≤ 6144
-    row_room =
-        omega (arith, ap length numbers_are, (lent_line sheet n more).fits.few, c.few, (row_at lines widths c.row n sheet c.reading more e).low)
+    pub row_room : length held + length (row_part numbers width) ≤ 6144
+    row_room = omega (arith, ap length numbers_are, here.fits.few, c.few, row_low)
 
-    pub zeros_room : zeroes + length (row_part lines n width) ≤ 6144
-    zeros_room =
-        omega (arith, ap length numbers_are, (lent_line sheet n more).fits.few, c.few_zeros, (row_at lines widths c.row n sheet c.reading more e).low)
+    pub zeros_room : {zeroes' : ℕ} → zeroes' ≡ zeros_in (row_part numbers width) → zeroes + zeroes' ≤ 6144
+    zeros_room is = omega (arith, is, zeros_few (row_part numbers width), ap length numbers_are, here.fits.few, c.few_zeros, row_low)
 
-    pub count_row : {values' heads' next' : List ℕ} {count' zeroes' : ℕ} → Added by values count (row_part lines n width) values' heads' next' count'
-        → zeroes' ≡ zeros_in (row_part lines n width) → zeroes' ≤ length (row_part lines n width)
-        → Counting lines widths by values' heads' next' count' (zeroes + zeroes') (n + 1)
-    count_row {values'} {heads'} {next'} {count'} {zeroes'} a is low =
-        let h = lent_line sheet n more in
+    pub count_row : {held' : List ℕ} {zeroes' : ℕ} → held' ≡ add_all ℕ_discrete (row_part numbers width) held → zeroes' ≡ zeros_in (row_part numbers width)
+        → Counting lines widths held' (zeroes + zeroes') (n + 1)
+    count_row {held'} {zeroes'} added is =
         record {
           row = c.row + 1;
-          reading = read_row lines widths c.row n sheet c.reading more e;
-          stored = a.stored;
-          few = omega (arith, a.few, c.few, ap length numbers_are, h.fits.few);
-          few_zeros = omega (arith, low, c.few_zeros, ap length numbers_are, h.fits.few);
+          reading = read_row lines widths c.row n sheet c.reading (line_there e) (is_letter r);
+          few = omega (arith, ap length added, length-add_all ℕ_discrete (row_part numbers width) held, c.few, ap length numbers_are, here.fits.few);
+          few_zeros = omega (arith, is, zeros_few (row_part numbers width), c.few_zeros, ap length numbers_are, here.fits.few);
           past = c.past ++ line.numbers;
           zeros_are = omega (arith, c.zeros_are, is, ap zeros_in numbers_are, zeros-append c.past line.numbers);
-          are = subst (λ (xs : List ℕ). AreOf values' count' (c.past ++ xs)) numbers_are (a.are c.past c.are);
+          are =
+              added ∙ ap (λ (xs : List ℕ). add_all ℕ_discrete xs held) numbers_are
+              ∙ ap (λ (l : List ℕ). add_all ℕ_discrete line.numbers l) c.are
+              ∙ sym (add_all-append ℕ_discrete c.past line.numbers []);
           rest =
               append_assoc c.past line.numbers (numbers_of (row_lines (drop (n + 1) (lines_in lines))))
               ∙ ap (λ (ls : List Line). c.past ++ numbers_of ls)
-              (sym (rows_where (lines_in lines) n h.inside true (eq-eqb line.letter R (sym h.letter ∙ e)))) ∙ c.rest;
+              (sym (rows_where (lines_in lines) n here.inside true (eq-eqb line.letter R (sym here.letter ∙ is_letter r)))) ∙ c.rest;
         }
 
 -- All lines are read.
-pub count_all : {lines widths : List ℕ} {by : ℕ} {values heads next : List ℕ} {count zeroes n : ℕ} → SheetHeld lines
-    → Counting lines widths by values heads next count zeroes n → length lines ≤ 8 * n → ValuesAre lines count zeroes
-count_all {lines} {n = n} sheet c h =
+pub count_all : {lines widths held : List ℕ} {zeroes n : ℕ} → SheetHeld lines → Counting lines widths held zeroes n → length lines ≤ 8 * n
+    → ValuesAre lines (length held) zeroes
+count_all {lines} {n = n} sheet c over =
     record {
-      different_are = c.are.counted ∙ ap (different ℕ_discrete) all;
+      different_are = ap length c.are ∙ ap (different ℕ_discrete) all;
       zeros_are = c.zeros_are ∙ ap zeros_in all;
-      few = c.stored.chain.small;
-      few_zeros = omega (arith, c.few_zeros, rows_few (lines_in lines) (held_lines sheet).1, ap (λ (ls : List Line). length (row_lines ls)) (take_all n (lines_in lines) whole), c.reading.rows_are);
+      few = omega (arith, c.few, rows);
+      few_zeros = omega (arith, c.few_zeros, rows);
     }
   where
     whole : length (lines_in lines) ≤ n
     whole = omega (arith, size_held sheet)
+
+    rows : c.row ≤ 1024
+    rows = omega (arith, rows_few (lines_in lines) (held_lines sheet).1, ap (λ (ls : List Line). length (row_lines ls)) (take_all n (lines_in lines) whole), c.reading.rows_are)
 
     all : c.past ≡ numbers_of (row_lines (lines_in lines))
     all =

@@ -1,20 +1,16 @@
 -- The paper's numbers for the answers of the forecast. Assumes nothing.
-use Rattle.std.specs.Prelude.{ℕ}
+use Rattle.std.specs.Prelude.{ℕ, Option, Some, None, Result, Ok, Err}
 use Rattle.growth.specs.Forecast as Forecast
 use Rattle.growth.specs.Forecast.{exactly, beyond}
 use Rattle.growth.specs.Contract as Contract
 use Rattle.growth.specs.Contract.{foretold, refuses}
-use Rattle.forecasting.specs.declared.Figure.{Figure}
-use Rattle.forecasting.specs.declared.Figure.TheVariants.{Number, Beyond}
 use Rattle.forecasting.specs.declared.Figures.{Figures}
 use Rattle.forecasting.specs.declared.ForecastRefusal.{ForecastRefusal}
 use Rattle.forecasting.specs.declared.ForecastRefusal.TheVariants.{LineWrong, ShapesOver, Endless}
-use Rattle.forecasting.specs.declared.ForecastAnswer.{ForecastAnswer}
-use Rattle.forecasting.specs.declared.ForecastAnswer.TheVariants.{Foretold, Refused}
 
-abbrev pub figure_of : Figure → Forecast.Figure
-figure_of (Number n) = exactly n
-figure_of Beyond = beyond
+abbrev pub figure_of : Option ℕ → Forecast.Figure
+figure_of (Some n) = exactly n
+figure_of None = beyond
 
 abbrev pub figures_of : Figures → Forecast.Forecast
 figures_of f = record { values = figure_of f.values; records = figure_of f.records; pairs = figure_of f.pairs }
@@ -29,6 +25,6 @@ forecast_refusal_line (LineWrong line) = line
 forecast_refusal_line ShapesOver = 0
 forecast_refusal_line Endless = 0
 
-abbrev pub forecast_says : ForecastAnswer → Contract.Foretold
-forecast_says (Foretold f) = foretold (figures_of f)
-forecast_says (Refused r) = refuses (forecast_refusal_number r) (forecast_refusal_line r)
+abbrev pub forecast_says : Result Figures ForecastRefusal → Contract.Foretold
+forecast_says (Ok f) = foretold (figures_of f)
+forecast_says (Err r) = refuses (forecast_refusal_number r) (forecast_refusal_line r)

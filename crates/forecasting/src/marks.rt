@@ -1,56 +1,74 @@
-// The marks of a rule: how many are fresh, and how many are carried. Each mark has a state, at its place from 0 to 12:
-// 0 where it has not been met, 1 where it stands in the B line, 2 where it has been counted.
-ghost use Rattle.std.specs.Prelude.{◌≡◌, [], ◌+◌, ◌*◌, ◌≤◌, ◌<◌, length, get_or};
+// The marks of a rule: how many are fresh, and how many are carried. What is met of each mark stands at its place, from 0 to 12.
+ghost use Rattle.std.specs.Prelude.{◌≡◌, [], ◌+◌, ◌*◌, ◌≤◌, ◌<◌, ◌==◌, length, get_or, position};
 ghost use Rattle.sheet.specs.Line.{B};
 ghost use Rattle.rules.specs.Table.{SheetHeld, MarksFit};
 ghost use Rattle.rules.specs.Inner.Bytes.{marks_at, LineIn};
 ghost use Rattle.forecasting.specs.Inner.Marks.{Counted, HeadsCounted, MarkMet};
 ghost use Rattle.forecasting.specs.Inner.Terms.{MarksCounted};
 
-use crate::wide;
 use sheet::LETTER_H;
 
+// Where a mark has been met: in neither line, in the B line, or in an H line, where it was counted.
+#[derive(Clone, Copy)]
+enum Mark {
+    Nowhere,
+    InBody,
+    InHead,
+}
+
 // How many marks of a rule are fresh, and how many are carried.
-#[derive(Drop)]
+#[derive(Clone, Copy)]
 pub(crate) struct MarkCounts {
     pub fresh: usize,
     pub carried: usize,
 }
 
-// The counts once a mark with this state is met in an H line.
-fn with_mark(counts: MarkCounts, state: u8) -> MarkCounts
+// The counts once a mark that was met there is met in an H line.
+fn with_mark(counts: MarkCounts, mark: Mark) -> MarkCounts
     requires { (counts.fresh ≤ 12) × (counts.carried ≤ 12) }
-    ensures { MarkMet state counts result }
+    ensures { MarkMet mark counts result }
 {
-    if state == 0 {
-        return MarkCounts {
+    match mark {
+        Mark::Nowhere => MarkCounts {
             fresh: counts.fresh + 1,
-            carried: counts.carried,
-        };
-    }
-    if state == 1 {
-        return MarkCounts {
-            fresh: counts.fresh,
+            ..counts
+        },
+        Mark::InBody => MarkCounts {
             carried: counts.carried + 1,
-        };
+            ..counts
+        },
+        Mark::InHead => counts,
     }
-    counts
 }
 
-// The states of the marks before any H line, by B line `n`.
-fn body_marks(lines: &[u32], n: usize) -> [u8; 13]
+// Where the first 0 stands.
+fn first_zero(numbers: &[u32]) -> Option<usize>
+    ensures { result ≡ position (λ m. m == 0) numbers.now }
+{
+    numbers.iter().position(|m| *m == 0)
+}
+
+// The marks of line `n`: its numbers up to the first 0.
+fn marks_of(lines: &[u32], n: usize) -> &[u32]
+    requires { LineIn lines.now n }
+    ensures { result.now ≡ marks_at lines.now n }
+{
+    let numbers = &lines[8 * n + 2..8 * n + 8];
+    match first_zero(numbers) {
+        Some(count) => &numbers[..count],
+        None => numbers,
+    }
+}
+
+// The marks before any H line, by B line `n`.
+fn body_marks(lines: &[u32], n: usize) -> [Mark; 13]
     requires { LineIn lines.now n × MarksFit (marks_at lines.now n) }
     ensures { Counted (marks_at lines.now n) [] result 0 0 }
 {
-    let mut met = [0u8; 13];
-    let mut i: usize = 0;
-    while i < 6 {
-        let mark = wide::of_u32(lines[8 * n + 2 + i]);
-        if mark == 0 {
-            return met;
-        }
-        met[mark] = 1;
-        i += 1;
+    let mut met = [Mark::Nowhere; 13];
+    let marks = marks_of(lines, n);
+    for mark in marks {
+        met[*mark as usize] = Mark::InBody;
     }
     met
 }
@@ -60,23 +78,18 @@ fn count_head(
     lines: &[u32],
     n: usize,
     h: usize,
-    met: &mut [u8; 13],
+    met: &mut [Mark; 13],
     before: MarkCounts,
 ) -> MarkCounts
     requires { LineIn lines.now (n + 1 + h) × MarksFit (marks_at lines.now (n + 1 + h)) × HeadsCounted lines.now n h met.old before [] }
     ensures { HeadsCounted lines.now n (h + 1) met.new result [] }
 {
-    let line = n + 1 + h;
     let mut counts = before;
-    let mut i: usize = 0;
-    while i < 6 {
-        let mark = wide::of_u32(lines[8 * line + 2 + i]);
-        if mark == 0 {
-            return counts;
-        }
-        counts = with_mark(counts, met[mark]);
-        met[mark] = 2;
-        i += 1;
+    let marks = marks_of(lines, n + 1 + h);
+    for mark in marks {
+        let place = *mark as usize;
+        counts = with_mark(counts, met[place]);
+        met[place] = Mark::InHead;
     }
     counts
 }
@@ -91,13 +104,11 @@ pub(crate) fn rule_marks(lines: &[u32], n: usize) -> MarkCounts
         fresh: 0,
         carried: 0,
     };
-    let mut h: usize = 0;
-    while 8 * (n + 1 + h) < lines.len() {
+    for h in 0..lines.len() / 8 - (n + 1) {
         if lines[8 * (n + 1 + h)] != LETTER_H {
             return counts;
         }
         counts = count_head(lines, n, h, &mut met, counts);
-        h += 1;
     }
     counts
 }

@@ -4,11 +4,11 @@ ghost use Rattle.rules.specs.Table.{SheetHeld, lines_in};
 ghost use Rattle.forecasting.specs.Inner.Terms.{KindsCounted, RulesCounted};
 
 use crate::marks::rule_marks;
-use crate::wide;
 use sheet::{LETTER_B, LETTER_K};
 
 // For each count of carried marks, the fresh marks of the rules that carry so many, and how many rules do.
-#[derive(Drop)]
+// Two arrays and not one of pairs: `polynomial` reads one at a time.
+#[derive(Clone, Copy)]
 pub(crate) struct RuleTerms {
     pub fresh: [u64; 7],
     pub pairs: [u64; 7],
@@ -20,13 +20,10 @@ pub(crate) fn kind_terms(lines: &[u32]) -> [u64; 7]
     ensures { KindsCounted (lines_in lines.now) result }
 {
     let mut kinds = [0u64; 7];
-    let mut n: usize = 0;
-    while 8 * n < lines.len() {
-        if lines[8 * n] == LETTER_K {
-            let width = wide::of_u32(lines[8 * n + 2]);
-            kinds[width] += 1;
+    for line in lines.as_chunks::<8>().0 {
+        if line[0] == LETTER_K {
+            kinds[line[2] as usize] += 1;
         }
-        n += 1;
     }
     kinds
 }
@@ -38,15 +35,13 @@ pub(crate) fn rule_terms(lines: &[u32]) -> RuleTerms
 {
     let mut fresh = [0u64; 7];
     let mut pairs = [0u64; 7];
-    let mut n: usize = 0;
-    while 8 * n < lines.len() {
-        if lines[8 * n] == LETTER_B {
+    for (n, line) in lines.as_chunks::<8>().0.iter().enumerate() {
+        if line[0] == LETTER_B {
             let marks = rule_marks(lines, n);
             let carried = marks.carried;
             fresh[carried] += marks.fresh as u64;
             pairs[carried] += 1;
         }
-        n += 1;
     }
     RuleTerms { fresh, pairs }
 }

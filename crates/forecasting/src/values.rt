@@ -1,20 +1,84 @@
-// How many different values the table has; each 0, which is not given, is one of its own. They are looked up by a hash: where the chain of each bucket begins, and where each place leads. A place in a chain counts from 1; 0 ends it.
-ghost use Rattle.std.specs.Prelude.{◌≡◌, [], ◌∷◌, ◌+◌, ◌<◌, ◌≤◌, length};
+// How many different values the table has; each 0, which is not given, is one of its own.
+ghost use Rattle.std.specs.Prelude.{◌≡◌, [], ◌∷◌, ◌+◌, ◌<◌, ◌≤◌, ◌↔◌, List, ℕ, length, take, IsTrue};
+ghost use Rattle.std.proofs.Math.Decide.{ℕ_discrete};
+ghost use Rattle.patterns.specs.Lists.{In};
+ghost use Rattle.patterns.specs.Pattern.{add as add_to, add_all as add_all_to};
 ghost use Rattle.carrying.specs.Carrying.{zeros as zeros_in};
 ghost use Rattle.rules.specs.Table.{SheetHeld, lines_in};
-ghost use Rattle.rules.specs.Inner.Bytes.{Clear};
-ghost use Rattle.chains.specs.Inner.Chains.{FoundAt};
 ghost use Rattle.growth.specs.Forecast.{first_t};
-ghost use Rattle.forecasting.specs.Inner.Values.{bucket_of, IsAt, Stored, Added, ValuesAre};
+ghost use Rattle.forecasting.specs.Inner.Values.{bucket_of, Stored, ValuesAre};
 
-use crate::wide;
 use sheet::{LETTER_K, LETTER_R};
+use std::marker::Model;
 
-// How many different numbers the rows have, 0 among them, and how many zeros.
+// Different values, found by a hash: where the chain of each bucket begins, and where each place leads. A place in a chain counts from 1; 0 ends it.
 #[derive(Drop)]
 struct Values {
-    different: usize,
-    zeros: usize,
+    // Room for the values of 1,024 rows of six.
+    held: [u32; 6144],
+    heads: [u16; 4096],
+    next: [u16; 6144],
+    // What the hash multiplies by.
+    by: usize,
+    count: usize,
+}
+
+// Clauses see the values that are held, in the order in which they came.
+impl Model for Values {
+    ghost Value = { List ℕ };
+
+    ghost view = { λ v. take v.count v.held };
+
+    ghost invariant = { λ v. Stored v.by v.held v.heads v.next v.count };
+}
+
+impl Values {
+    // How many there are.
+    fn len(&self) -> usize
+        ensures { result ≡ length self.now }
+    {
+        self.count
+    }
+
+    // Whether a value is there.
+    fn has(&self, x: u32) -> bool
+        ensures { IsTrue result ↔ In x self.now }
+    {
+        let mut at = self.heads[bucket(self.by, x)] as usize;
+        // A `while`, for a chain has no index: each place says the next.
+        while at != 0 {
+            if self.held[at - 1] == x {
+                return true;
+            }
+            at = self.next[at - 1] as usize;
+        }
+        false
+    }
+
+    // Adds a value unless it is there.
+    fn add(&mut self, x: u32)
+        requires { length self.old < 6144 }
+        ensures { self.new ≡ add_to ℕ_discrete x self.old }
+    {
+        if self.has(x) {
+            return;
+        }
+        let b = bucket(self.by, x);
+        self.held[self.count] = x;
+        self.next[self.count] = self.heads[b];
+        self.heads[b] = (self.count + 1) as u16;
+        self.count += 1;
+    }
+
+    // Adds the values of a row, one after the other.
+    fn add_all(&mut self, row: &[u32])
+        requires { length self.old + length row.now ≤ 6144 }
+        ensures { self.new ≡ add_all_to ℕ_discrete row.now self.old }
+    {
+        for x in row {
+            self.add(*x);
+        }
+    }
 }
 
 // The bucket of a value.
@@ -22,143 +86,34 @@ fn bucket(by: usize, x: u32) -> usize
     requires { by < 2147483648 }
     ensures { (result ≡ bucket_of by x) × (result < 4096) }
 {
-    wide::of_u32(x) * by % 4294967296 / 1048576
-}
-
-// The place of a value in bucket `b`, which is its own; `count` where it is not there.
-fn find(
-    values: &[u32],
-    heads: &[u16],
-    next: &[u16],
-    by: usize,
-    count: usize,
-    x: u32,
-    b: usize,
-) -> usize
-    requires { Stored by values.now heads.now next.now count × (b ≡ bucket_of by x) × (b < 4096) }
-    ensures { FoundAt (IsAt values.now x) count result }
-{
-    let mut at = wide::of_u16(heads[b]);
-    while at != 0 {
-        let i = at - 1;
-        if values[i] == x {
-            return i;
-        }
-        at = wide::of_u16(next[i]);
-    }
-    count
-}
-
-// Adds a value unless it is there. Answers how many there are then.
-fn add(
-    values: &mut [u32],
-    heads: &mut [u16],
-    next: &mut [u16],
-    by: usize,
-    count: usize,
-    x: u32,
-) -> usize
-    requires { Stored by values.old heads.old next.old count × (count < 6144) }
-    ensures { Added by values.old count (x ∷ []) values.new heads.new next.new result }
-{
-    let b = bucket(by, x);
-    if find(values, heads, next, by, count, x, b) < count {
-        return count;
-    }
-    values[count] = x;
-    next[count] = heads[b];
-    heads[b] = (count + 1) as u16;
-    count + 1
-}
-
-// Adds the values of a row, one after the other.
-fn add_all(
-    values: &mut [u32],
-    heads: &mut [u16],
-    next: &mut [u16],
-    by: usize,
-    count: usize,
-    row: &[u32],
-) -> usize
-    requires { Stored by values.old heads.old next.old count × (count + length row.now ≤ 6144) }
-    ensures { Added by values.old count row.now values.new heads.new next.new result }
-{
-    let mut r = count;
-    let mut k: usize = 0;
-    while k < row.len() {
-        r = add(values, heads, next, by, r, row[k]);
-        k += 1;
-    }
-    r
+    x as usize * by % 4294967296 / 1048576
 }
 
 // How many values of a row are 0.
 fn zeros_of(row: &[u32]) -> usize
-    ensures { (result ≡ zeros_in row.now) × (result ≤ length row.now) }
+    ensures { result ≡ zeros_in row.now }
 {
-    let mut r: usize = 0;
-    let mut i: usize = 0;
-    while i < row.len() {
-        if row[i] == 0 {
-            r += 1;
-        }
-        i += 1;
-    }
-    r
+    row.iter().filter(|x| **x == 0).count()
 }
 
-// Adds the values of all rows. The width of a row is that of its kind.
-fn add_rows(
-    lines: &[u32],
-    values: &mut [u32],
-    heads: &mut [u16],
-    next: &mut [u16],
-    by: usize,
-) -> Values
-    requires { SheetHeld lines.now × Stored by values.old heads.old next.old 0 }
-    ensures { ValuesAre lines.now result.different result.zeros }
+// Adds the values of all rows and answers how many are 0. The width of a row is that of its kind.
+fn add_rows(lines: &[u32], values: &mut Values) -> usize
+    requires { SheetHeld lines.now × (values.old ≡ []) }
+    ensures { ValuesAre lines.now (length values.new) result }
 {
     let mut widths = [0u32; 65];
-    let mut count: usize = 0;
     let mut zeros: usize = 0;
-    let mut n: usize = 0;
-    while 8 * n < lines.len() {
-        let letter = lines[8 * n];
-        let kind = lines[8 * n + 1] as usize;
-        if letter == LETTER_K {
-            widths[kind] = lines[8 * n + 2];
-        } else if letter == LETTER_R {
-            let at = 8 * n + 2;
-            let end = at + wide::of_u32(widths[kind]);
-            count = add_all(values, heads, next, by, count, &lines[at..end]);
-            zeros += zeros_of(&lines[at..end]);
+    for line in lines.as_chunks::<8>().0 {
+        let kind = line[1] as usize;
+        if line[0] == LETTER_K {
+            widths[kind] = line[2];
+        } else if line[0] == LETTER_R {
+            let row = &line[2..2 + widths[kind] as usize];
+            values.add_all(row);
+            zeros += zeros_of(row);
         }
-        n += 1;
     }
-    Values {
-        different: count,
-        zeros,
-    }
-}
-
-// Room for the different values of 1,024 rows of six, and for where each leads.
-fn no_values() -> [u32; 6144]
-    ensures { length result ≡ 6144 }
-{
-    [0u32; 6144]
-}
-
-fn no_next() -> [u16; 6144]
-    ensures { length result ≡ 6144 }
-{
-    [0u16; 6144]
-}
-
-// Empty chains.
-fn no_heads() -> [u16; 4096]
-    ensures { Clear result 4096 }
-{
-    [0u16; 4096]
+    zeros
 }
 
 // The first t. The first 0 is among the different numbers; each further one is a value more. Its arrays have a frame of their own, so that they are not there while the sheet is judged.
@@ -167,14 +122,17 @@ pub(crate) fn count_values(lines: &[u32]) -> usize
     requires { SheetHeld lines.now }
     ensures { (result ≡ first_t (lines_in lines.now)) × (result ≤ 12288) }
 {
-    let mut values = no_values();
-    let mut heads = no_heads();
-    let mut next = no_next();
-    let by = chains::multiplier(lines);
-    let found = add_rows(lines, &mut values, &mut heads, &mut next, by);
-    let zeros = found.zeros;
+    let mut values = Values {
+        held: [0; 6144],
+        heads: [0; 4096],
+        next: [0; 6144],
+        by: chains::multiplier(lines),
+        count: 0,
+    };
+    let zeros = add_rows(lines, &mut values);
+    let different = values.len();
     if zeros == 0 {
-        return found.different;
+        return different;
     }
-    found.different + zeros - 1
+    different + zeros - 1
 }

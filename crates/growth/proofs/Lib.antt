@@ -13,3 +13,4 @@ pub mod Answers
 pub mod SheetTheorem
 pub mod FittedLaws
 pub mod Tight
+pub mod LineLaws

@@ -27,7 +27,7 @@ module _ {A : Type 0} (d : Discrete A) where
   abbrev pub different : List A → ℕ
   different xs = length (add_all d xs [])
 
-  add_all-append : (xs ys l : List A) → add_all d (xs ++ ys) l ≡ add_all d ys (add_all d xs l)
+  pub add_all-append : (xs ys l : List A) → add_all d (xs ++ ys) l ≡ add_all d ys (add_all d xs l)
   add_all-append [] ys l = refl
   add_all-append (x ∷ xs) ys l = add_all-append xs ys (add d x l)
 

@@ -6,9 +6,8 @@ use mathlib.Core.List.{List, [], ◌∷◌, map}
 use mathlib.Core.Option.{some}
 use Prim.Native.Nat.{ℕ, zero, suc, ◌+◌, ◌<◌}
 use native.Mathlib.Omega.{arith}
-use lib.Dec.{eqb}
 use lib.ListN.{length, get_or, length-map}
-use borrow.Author.Tests.{eqb-true, eq-eqb}
+use Rattle.std.proofs.lemmas.Bool.{false≢true}
 use Rattle.chase.specs.Lists.{In}
 use Rattle.chase.specs.Rules.{Rule, nth}
 use Rattle.chase.specs.Making.{Record}
@@ -20,7 +19,7 @@ use Rattle.chase.proofs.ListLaws.{in_map, map_in}
 use Rattle.chase.proofs.StepLaws.{nth_in}
 use Rattle.chase.proofs.CodedLaws.{fires_applies, applies_fires, made-digits, derived_reached, reached_coded}
 use Rattle.judging.specs.Inner.Codes.{shape_from}
-use Rattle.judging.specs.Inner.Found.{shape_no, Has, Via, via_row, via_rule, Kept, Whole, FiredRules, ones_in}
+use Rattle.judging.specs.Inner.Found.{shape_no, Has, Via, via_row, via_rule, Kept, Whole, FiredRules, fired_in}
 use Rattle.judging.proofs.FoundLaws.{same_place}
 use Rattle.judging.proofs.Places.{below, below_length, below_in, in_below, no_two_below, nth_below}
 
@@ -72,41 +71,41 @@ shapes_counted rules rows codes index ways count kept whole =
     }
 
 -- The numbers of the rules that are marked.
-abbrev marked : ℕ → ℕ → List ℕ → List ℕ
+abbrev marked : ℕ → ℕ → List Bool → List ℕ
 marked a zero ms = []
 marked a (suc n) [] = []
-marked a (suc n) (m ∷ ms) = cond (eqb m 1) (suc a ∷ marked (suc a) n ms) (marked (suc a) n ms)
+marked a (suc n) (m ∷ ms) = cond m (suc a ∷ marked (suc a) n ms) (marked (suc a) n ms)
 
-marked_length : (a n : ℕ) (ms : List ℕ) → length (marked a n ms) ≡ ones_in n ms
+marked_length : (a n : ℕ) (ms : List Bool) → length (marked a n ms) ≡ fired_in n ms
 marked_length a zero ms = refl
 marked_length a (suc n) [] = refl
-marked_length a (suc n) (m ∷ ms) = go (eqb m 1) (marked_length (suc a) n ms)
+marked_length a (suc n) (m ∷ ms) = go m (marked_length (suc a) n ms)
   where
-    go : (b : Bool) → length (marked (suc a) n ms) ≡ ones_in n ms
-        → length (cond b (suc a ∷ marked (suc a) n ms) (marked (suc a) n ms)) ≡ cond b (suc (ones_in n ms)) (ones_in n ms)
+    go : (b : Bool) → length (marked (suc a) n ms) ≡ fired_in n ms
+        → length (cond b (suc a ∷ marked (suc a) n ms) (marked (suc a) n ms)) ≡ cond b (suc (fired_in n ms)) (fired_in n ms)
     go true ih = ap suc ih
     go false ih = ih
 
-marked_in : (a n : ℕ) (ms : List ℕ) (x : ℕ) → In x (marked a n ms) → (j : ℕ) × (x ≡ suc (a + j)) × (get_or ms j 0 ≡ 1)
+marked_in : (a n : ℕ) (ms : List Bool) (x : ℕ) → In x (marked a n ms) → (j : ℕ) × (x ≡ suc (a + j)) × (get_or ms j false ≡ true)
 marked_in a zero ms x i = absurd i
 marked_in a (suc n) [] x i = absurd i
-marked_in a (suc n) (m ∷ ms) x i = go (eqb m 1) refl i (λ j. marked_in (suc a) n ms x j)
+marked_in a (suc n) (m ∷ ms) x i = go m refl i (λ j. marked_in (suc a) n ms x j)
   where
-    after : (j : ℕ) × (x ≡ suc (suc a + j)) × (get_or ms j 0 ≡ 1) → (j : ℕ) × (x ≡ suc (a + j)) × (get_or (m ∷ ms) j 0 ≡ 1)
+    after : (j : ℕ) × (x ≡ suc (suc a + j)) × (get_or ms j false ≡ true) → (j : ℕ) × (x ≡ suc (a + j)) × (get_or (m ∷ ms) j false ≡ true)
     after s = (suc s.0, omega (arith, s.1), s.2)
 
-    go : (b : Bool) → eqb m 1 ≡ b → In x (cond b (suc a ∷ marked (suc a) n ms) (marked (suc a) n ms))
-        → (In x (marked (suc a) n ms) → (j : ℕ) × (x ≡ suc (suc a + j)) × (get_or ms j 0 ≡ 1))
-        → (j : ℕ) × (x ≡ suc (a + j)) × (get_or (m ∷ ms) j 0 ≡ 1)
-    go true q (inl p) ih = (0, omega arith, eqb-true m 1 q)
+    go : (b : Bool) → m ≡ b → In x (cond b (suc a ∷ marked (suc a) n ms) (marked (suc a) n ms))
+        → (In x (marked (suc a) n ms) → (j : ℕ) × (x ≡ suc (suc a + j)) × (get_or ms j false ≡ true))
+        → (j : ℕ) × (x ≡ suc (a + j)) × (get_or (m ∷ ms) j false ≡ true)
+    go true q (inl p) ih = (0, omega arith, q)
     go true q (inr i) ih = after (ih i)
     go false q i ih = after (ih i)
 
-in_marked : (a n : ℕ) (ms : List ℕ) (j : ℕ) → j < n → get_or ms j 0 ≡ 1 → In (suc (a + j)) (marked a n ms)
+in_marked : (a n : ℕ) (ms : List Bool) (j : ℕ) → j < n → get_or ms j false ≡ true → In (suc (a + j)) (marked a n ms)
 in_marked a zero ms j l e = absurd (omega arith)
-in_marked a (suc n) [] j l e = absurd (omega arith)
-in_marked a (suc n) (m ∷ ms) zero l e = rw (eq-eqb m 1 e) (inl (omega arith))
-in_marked a (suc n) (m ∷ ms) (suc j) l e = go (eqb m 1) (in_marked (suc a) n ms j (omega arith) e)
+in_marked a (suc n) [] j l e = absurd (false≢true e)
+in_marked a (suc n) (m ∷ ms) zero l e = rw e (inl (omega arith))
+in_marked a (suc n) (m ∷ ms) (suc j) l e = go m (in_marked (suc a) n ms j (omega arith) e)
   where
     same : suc (a + suc j) ≡ suc (suc a + j)
     same = omega arith
@@ -116,18 +115,18 @@ in_marked a (suc n) (m ∷ ms) (suc j) l e = go (eqb m 1) (in_marked (suc a) n m
     go true ih = inr (subst (λ (v : ℕ). In v (marked (suc a) n ms)) (sym same) ih)
     go false ih = subst (λ (v : ℕ). In v (marked (suc a) n ms)) (sym same) ih
 
-marked_no_two : (a n : ℕ) (ms : List ℕ) → NoTwo (marked a n ms)
+marked_no_two : (a n : ℕ) (ms : List Bool) → NoTwo (marked a n ms)
 marked_no_two a zero ms = tt
 marked_no_two a (suc n) [] = tt
-marked_no_two a (suc n) (m ∷ ms) = go (eqb m 1) (marked_no_two (suc a) n ms)
+marked_no_two a (suc n) (m ∷ ms) = go m (marked_no_two (suc a) n ms)
   where
     go : (b : Bool) → NoTwo (marked (suc a) n ms) → NoTwo (cond b (suc a ∷ marked (suc a) n ms) (marked (suc a) n ms))
     go true ih = ((λ i. omega (arith, (marked_in (suc a) n ms (suc a) i).1)), ih)
     go false ih = ih
 
-pub fired-counted : (rules : List Rule) (rows : List Record) (codes index : List ℕ) (ways : List (List ℕ)) (fired : List ℕ) (count : ℕ)
+pub fired-counted : (rules : List Rule) (rows : List Record) (codes index : List ℕ) (ways : List (List ℕ)) (fired : List Bool) (count : ℕ)
     → Kept rules rows codes index ways count → Whole rules rows codes count → FiredRules rules codes fired count
-    → Count (Fired rules rows) (ones_in (length rules) fired)
+    → Count (Fired rules rows) (fired_in (length rules) fired)
 fired-counted rules rows codes index ways fired count kept whole marks =
     record {
       list = marked 0 (length rules) fired;
@@ -140,17 +139,17 @@ fired-counted rules rows codes index ways fired count kept whole marks =
     sound : (n : ℕ) → In n (marked 0 (length rules) fired) → Fired rules rows n
     sound n i =
         let s = marked_in 0 (length rules) fired n i in
-        let t = marks.sound s.0 (λ z. omega (arith, z, s.2)) in
-        let r = t.1.0 in
-        let k = t.1.2.0 in
-        let w = place_reached rules rows codes index ways count kept k t.1.2.1 in
+        let t = marks.sound s.0 s.2 in
+        let r = t.0 in
+        let k = t.2.0 in
+        let w = place_reached rules rows codes index ways count kept k t.2.1 in
         let is : n ≡ suc s.0 = omega (arith, s.1) in
         record {
           rule = r;
-          named = ap (nth rules) is ∙ t.1.1;
+          named = ap (nth rules) is ∙ t.1;
           on = w.on;
           reachable = w.reachable;
-          fires = applies_fires r w.on (subst (λ (u : Shape). Applies r u) (sym w.shape) t.1.2.2);
+          fires = applies_fires r w.on (subst (λ (u : Shape). Applies r u) (sym w.shape) t.2.2);
         }
 
     complete : (n : ℕ) → Fired rules rows n → In n (marked 0 (length rules) fired)

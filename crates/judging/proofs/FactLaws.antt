@@ -1,6 +1,7 @@
 -- From the facts of a sheet to the certificates of its verdict: the closed list with its deepest generation, the line, and the loop. Assumes nothing.
 use mathlib.Core.Path.{◌≡◌, sym, ◌∙◌, ap, subst}
 use mathlib.Core.Logic.{◌⊎◌}
+use mathlib.Core.Bool.{Bool}
 use mathlib.Core.List.{List, [], ◌∷◌, ◌++◌}
 use mathlib.Core.Option.{some}
 use Prim.Native.Nat.{ℕ, zero, suc, ◌+◌, ◌-◌, ◌*◌, ◌/◌, ◌%◌, ◌≤◌, ◌<◌}
@@ -14,10 +15,10 @@ use Rattle.chase.specs.Run.{rows_of}
 use Rattle.chase.specs.Shape.{Shape, shape_of, Reached, Fired}
 use Rattle.chase.specs.Counting.{Count}
 use Rattle.chase.specs.Steps.{Step, Fresh, FreshAlone, Moves, last_fresh}
-use Rattle.chase.specs.Certificate.{as_record, shape_after, EachShape, last_shape, largest, deepest_of, ClosedList, WayOn, LoopOn, LineOn, fresh_steps}
+use Rattle.chase.specs.Certificate.{as_record, shape_after, EachShape, last_shape, deepest_of, ClosedList, WayOn, LoopOn, LineOn, fresh_steps}
 use Rattle.chase.proofs.StepLaws.{last_shape-append, last_fresh-append, fresh_steps-append}
 use Rattle.judging.specs.Inner.Codes.{shape_at, code_of}
-use Rattle.judging.specs.Inner.Found.{shape_no, Via, via_row, via_rule, Kept, Whole, ones_in, maker_at}
+use Rattle.judging.specs.Inner.Found.{shape_no, Via, via_row, via_rule, Kept, Whole, fired_in, maker_at}
 use Rattle.judging.specs.Inner.Nodes.{at, back, weight, Stable, Turn, Line}
 use Rattle.judging.specs.Inner.Links.{Link, Closed}
 use Rattle.judging.specs.Inner.Written.{line_to, way_back, way_to, Falls, WayLength, StaysBelow, Deepest, InTurn, TurnLength, InLine, LineLength}
@@ -49,7 +50,7 @@ kept_closed rules rows codes index ways count own kept whole =
           omega (arith, z, kept.placed t.place t.below, ap (λ (d : ℕ). get_or index d 0) c);
     }
 
-module _ (lines : List SheetLine) (codes index : List ℕ) (ways : List (List ℕ)) (fired : List ℕ) (count : ℕ) (generations : List (List ℕ)) (from link : ℕ → ℕ) (turning : ℕ)
+module _ (lines : List SheetLine) (codes index : List ℕ) (ways : List (List ℕ)) (fired : List Bool) (count : ℕ) (generations : List (List ℕ)) (from link : ℕ → ℕ) (turning : ℕ)
     (f : Facts lines codes index ways fired count generations from link turning) where
   abbrev rules : List Rule
   rules = rules_of lines
@@ -72,7 +73,7 @@ module _ (lines : List SheetLine) (codes index : List ℕ) (ways : List (List �
   pub shapes_reached : Count (Reached rules rows) count
   shapes_reached = shapes_counted rules rows codes index ways count f.kept f.whole
 
-  pub rules_fired : Count (Fired rules rows) (ones_in (length rules) fired)
+  pub rules_fired : Count (Fired rules rows) (fired_in (length rules) fired)
   rules_fired = fired-counted rules rows codes index ways fired count f.kept f.whole f.fired_rules
 
   pub way-to : (k w : ℕ) → k < count → WayLength ways k w → WayFrom rules rows codes index ways count f.kept w k

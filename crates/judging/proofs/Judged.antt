@@ -5,18 +5,19 @@ use mathlib.Core.List.{List, [], ◌∷◌}
 use Prim.Native.Nat.{ℕ, zero, suc, ◌*◌, ◌/◌, ◌%◌, ◌≤◌, ◌<◌}
 use native.Mathlib.Decide.{dec_lt}
 use native.Mathlib.Omega.{arith}
-use lib.Dec.{eqb}
 use lib.ListN.{length, get_or, replicate, length-replicate, get_or-replicate}
+use Rattle.std.specs.Prelude.{Ok, Some}
 use Rattle.patterns.specs.Outcome.{refused}
 use Rattle.sheet.specs.Write.{sheet_held}
 use Rattle.chase.specs.Rules.{Rule}
-use Rattle.chase.specs.Counting.{share}
+use Rattle.chase.specs.Counting.{share, MoreThan}
+use Rattle.chase.specs.Simplification.{Derived}
 use Rattle.chase.specs.Judge.{judged, refuses, JudgeMeets, shape_limit, short, wrong}
-use Rattle.judging.specs.declared.Figures.{Figures}
-use Rattle.judging.specs.declared.JudgeAnswer.{JudgeAnswer}
+use Rattle.judging.specs.declared.answer.Counts.{Counts}
+use Rattle.judging.specs.declared.Verdict.{Verdict}
 use Rattle.judging.specs.Answer.{judge_says, verdict_of}
 use Rattle.rules.specs.Table.{SheetHeld, lines_in, rules_in, rows_in, table_rules, TableFits}
-use Rattle.judging.specs.Inner.Found.{ones_in, Searched}
+use Rattle.judging.specs.Inner.Found.{fired_in, Searched}
 use Rattle.judging.specs.Inner.Nodes.{at, back, Zeros, from_of, link_of}
 use Rattle.judging.specs.Inner.Links.{Closed, Spreads}
 use Rattle.judging.specs.Inner.Written.{Deepest, InTurn}
@@ -30,13 +31,13 @@ use Rattle.rules.proofs.TableLaws.{table_count}
 use Rattle.judging.proofs.FactLaws.{kept_closed, falls, in_line, in_turn, turn_below}
 use Rattle.judging.proofs.Verdicts.{held_lines as sheet-lines, settles_at_once, settles, endless, too_many}
 
--- No more of n numbers are 1 than n.
-pub ones_few : (n : ℕ) (numbers : List ℕ) → ones_in n numbers ≤ n
-ones_few zero numbers = omega arith
-ones_few (suc n) [] = omega arith
-ones_few (suc n) (m ∷ ms) = go (eqb m 1) (ones_few n ms)
+-- No more of n rules have fired than n.
+pub fired_few : (n : ℕ) (fired : List Bool) → fired_in n fired ≤ n
+fired_few zero fired = omega arith
+fired_few (suc n) [] = omega arith
+fired_few (suc n) (m ∷ ms) = go m (fired_few n ms)
   where
-    go : (t : Bool) → ones_in n ms ≤ n → cond t (suc (ones_in n ms)) (ones_in n ms) ≤ suc n
+    go : (t : Bool) → fired_in n ms ≤ n → cond t (suc (fired_in n ms)) (fired_in n ms) ≤ suc n
     go true h = omega arith
     go false h = omega arith
 
@@ -59,7 +60,7 @@ line-wrong numbers before line room e = (wrong line room e, refl)
 
 -- ---- a sheet whose shapes are all found
 
-module _ {numbers table : List ℕ} {rules : ℕ} {codes index : List ℕ} {ways : List (List ℕ)} {fired : List ℕ} {count : ℕ}
+module _ {numbers table : List ℕ} {rules : ℕ} {codes index : List ℕ} {ways : List (List ℕ)} {fired : List Bool} {count : ℕ}
     (known : Known numbers table rules codes index ways fired count) where
   pub rules_counted : length (rules_in numbers) ≡ rules
   rules_counted = ap (λ (l : List Rule). length l) (sym known.rules_are) ∙ table_count table rules
@@ -108,27 +109,27 @@ module _ {numbers table : List ℕ} {rules : ℕ} {codes index : List ℕ} {ways
   -- The figures are those of the sheet.
   module _ {generations : List (List ℕ)} (raises : List (List ℕ)) {turning : ℕ}
       (spreads : Spreads (table_rules table rules) codes count generations (from_of raises) (link_of raises) turning) where
-    module _ {counts : Figures} (shapes_are : counts.shapes ≡ count) (ones-are : counts.fired ≡ ones_in rules fired) (share-are : counts.share ≡ share counts.fired rules)
-        (before after : List ℕ) (room : 20480 ≤ length before) (answer : JudgeAnswer) where
-      pub endless_right : (y : ℕ) → turning ≡ suc y → SaysEndless ways raises counts.shapes y counts before answer after
-          → JudgeMeets shape_limit numbers before (judge_says answer) after
+    module _ {counts : Counts} (shapes_are : counts.shapes ≡ count) (fired-are : counts.fired ≡ fired_in rules fired) (share-are : counts.share ≡ share counts.fired rules)
+        (before after : List ℕ) (room : 20480 ≤ length before) (verdict : Verdict) where
+      pub endless_right : (y : ℕ) → turning ≡ suc y → SaysEndless ways raises counts.shapes y counts before verdict after
+          → JudgeMeets shape_limit numbers before (judge_says (Ok verdict)) after
       endless_right y turns said =
-          let s = subst (λ (n : ℕ). SaysEndless ways raises n y counts before answer after) shapes_are said in
+          let s = subst (λ (n : ℕ). SaysEndless ways raises n y counts before verdict after) shapes_are said in
           rw s.says
           (endless (lines_in numbers) codes index ways fired count generations (from_of raises) (link_of raises) turning (facts spreads) numbers before after
-          (sheet-lines numbers known.sheet) room (verdict_of 2 s.figures) (s.shapes ∙ shapes_are) (s.fired_is ∙ ones-are ∙ ap (λ (n : ℕ). ones_in n fired) (sym rules_counted))
+          (sheet-lines numbers known.sheet) room (verdict_of 2 s.figures) (s.shapes ∙ shapes_are) (s.fired_is ∙ fired-are ∙ ap (λ (n : ℕ). fired_in n fired) (sym rules_counted))
           (s.share_is ∙ share-are ∙ ap (λ (n : ℕ). share n rules) (sym s.fired_is) ∙ ap (share s.figures.fired) (sym rules_counted))
           y s.figures.turns s.figures.trail turns s.wrote.turn s.wrote.way refl s.deepest s.wrote.first refl refl s.wrote.steps)
 
-      pub settled_right : turning ≡ 0 → SaysSettled ways generations raises counts.shapes counts before answer after
-          → JudgeMeets shape_limit numbers before (judge_says answer) after
+      pub settled_right : turning ≡ 0 → SaysSettled ways generations raises counts.shapes counts before verdict after
+          → JudgeMeets shape_limit numbers before (judge_says (Ok verdict)) after
       settled_right settled said = rw s.says (go (dec_lt 0 (at generations s.node)))
         where
-          s : SaysSettled ways generations raises count counts before answer after
-          s = subst (λ (n : ℕ). SaysSettled ways generations raises n counts before answer after) shapes_are said
+          s : SaysSettled ways generations raises count counts before verdict after
+          s = subst (λ (n : ℕ). SaysSettled ways generations raises n counts before verdict after) shapes_are said
 
-          fired_are : s.figures.fired ≡ ones_in (length (rules_in numbers)) fired
-          fired_are = s.fired_is ∙ ones-are ∙ ap (λ (n : ℕ). ones_in n fired) (sym rules_counted)
+          fired_are : s.figures.fired ≡ fired_in (length (rules_in numbers)) fired
+          fired_are = s.fired_is ∙ fired-are ∙ ap (λ (n : ℕ). fired_in n fired) (sym rules_counted)
 
           share_is : s.figures.share ≡ share s.figures.fired (length (rules_in numbers))
           share_is = s.share_is ∙ share-are ∙ ap (λ (n : ℕ). share n rules) (sym s.fired_is) ∙ ap (share s.figures.fired) (sym rules_counted)
@@ -149,15 +150,14 @@ module _ {numbers table : List ℕ} {rules : ℕ} {codes index : List ℕ} {ways
 
 -- ---- what the search answers
 
-module _ {numbers codes index : List ℕ} {ways : List (List ℕ)} {fired : List ℕ} {count : ℕ} {full : Bool} (sheet : SheetHeld numbers)
-    (found : Searched (rules_in numbers) (rows_in numbers) codes index ways fired count full) where
-  pub shapes-over : (before : List ℕ) → 20480 ≤ length before → full ≡ true → JudgeMeets shape_limit numbers before (refuses 11 0) before
-  shapes-over before room is = too_many (lines_in numbers) numbers before (sheet-lines numbers sheet) room (found.more is)
+module _ {numbers : List ℕ} (sheet : SheetHeld numbers) where
+  pub shapes-over : (before : List ℕ) → 20480 ≤ length before → MoreThan (Derived (rules_in numbers) (rows_in numbers)) 512
+      → JudgeMeets shape_limit numbers before (refuses 11 0) before
+  shapes-over before room more = too_many (lines_in numbers) numbers before (sheet-lines numbers sheet) room more
 
-  pub all_known : {table : List ℕ} {rules : ℕ} → TableFits table rules → table_rules table rules ≡ rules_in numbers → full ≡ false
-      → Known numbers table rules codes index ways fired count
-  all_known fits are is =
-      let (kept, whole, fired_rules) = found.all is in
+  pub all_known : {table codes index : List ℕ} {ways : List (List ℕ)} {fired : List Bool} {rules count : ℕ} → Searched (rules_in numbers) (rows_in numbers) codes index ways fired (Some count)
+      → TableFits table rules → table_rules table rules ≡ rules_in numbers → Known numbers table rules codes index ways fired count
+  all_known (kept, whole, fired_rules) fits are =
       record { sheet = sheet; table_fits = fits; rules_are = are; kept = kept; whole = whole; fired_rules = fired_rules }
 
 -- ---- grids of zeros

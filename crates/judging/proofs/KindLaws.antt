@@ -107,16 +107,6 @@ module _ {table kinds : List ℕ} {rules r : ℕ} (x : Linked table rules kinds 
         next = put_next;
       }
 
--- All are put.
-pub linked_all : {table kinds : List ℕ} {rules r : ℕ} → Linked table rules kinds r → r ≤ 0 → ByKind table rules kinds
-linked_all {table} {kinds} {rules} {r} x l =
-    let z : r ≡ 0 = omega arith in
-    record {
-      size = x.size;
-      first = λ k b. subst (λ (y : ℕ). NextOf table rules y k (get_or kinds k 0)) z (x.first k b);
-      next = λ i b. x.next i (omega arith) b;
-    }
-
 -- Places: before all rules, and after a rule that fires.
 pub first-place : {table : List ℕ} {rules : ℕ} (kind : ℕ) → kind ≤ 64 → Place table rules kind kind
 first-place kind l = record { start = λ _. refl; rule = λ h. let z : ⊥ = omega arith in absurd z }

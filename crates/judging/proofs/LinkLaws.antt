@@ -1,5 +1,6 @@
 -- The links that the bytes of rules give: each level of loops follows those of its part. Assumes nothing.
 use mathlib.Core.Path.{◌≡◌, sym, subst, ap, ◌∙◌}
+use mathlib.Core.Bool.{Bool}
 use mathlib.Core.List.{List}
 use mathlib.Core.Option.{some}
 use Prim.Native.Nat.{ℕ, suc, ◌+◌, ◌*◌, ◌≤◌, ◌<◌}
@@ -106,7 +107,7 @@ carried_only d (carried_link y e) = e
 carried_only d (fresh_link z e) = absurd (d z)
 
 module _ {n : ℕ} (bytes : List ℕ) (r h s t j : ℕ) {place : ℕ} (is : place ≡ place_of bytes h j)
-    {g₀ g f₀ f : List (List ℕ)} {w₀ w : List ℕ} {r₀ q : Raised} where
+    {g₀ g f₀ f : List (List ℕ)} {w₀ w : List Bool} {r₀ q : Raised} where
   pub fresh_field : place ≡ 0 → Done n (Upto 7 (FreshLink bytes s (7 * t + (j + 1)) (8 * r + 2 * h + 1))) g₀ f₀ w₀ r₀ g f w q
       → Done n (FieldLink bytes r h s t j) g₀ f₀ w₀ r₀ g f w q
   fresh_field z d = let y : place_of bytes h j ≡ 0 = sym is ∙ z in alike (λ u v code e. fresh_link y e) (λ u v code e. fresh_only y e) d

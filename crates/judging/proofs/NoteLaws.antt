@@ -1,5 +1,6 @@
 -- The notes of the search: how each event of it keeps them, and that following the notes on a shape is following all its links. Assumes nothing.
 use mathlib.Core.Path.{◌≡◌, refl, sym, subst, ap, ◌∙◌}
+use mathlib.Core.Bool.{Bool}
 use mathlib.Core.List.{List, [], ◌∷◌}
 use mathlib.Core.Logic.{by_cases}
 use mathlib.Core.Option.{some}
@@ -116,7 +117,7 @@ module _ {table : List ℕ} {rules : ℕ} (fits : TableFits table rules) {index 
 
     -- Following them all is following the shape's links.
     pub notes-done :
-        {n s : ℕ} {g₀ g f₀ f : List (List ℕ)} {w₀ w : List ℕ} {r₀ r : Raised}
+        {n s : ℕ} {g₀ g f₀ f : List (List ℕ)} {w₀ w : List Bool} {r₀ r : Raised}
         → Done n (NotesLink table part s) g₀ f₀ w₀ r₀ g f w r → Done n (ShapeLink table rules index code s) g₀ f₀ w₀ r₀ g f w r
     notes-done {s = s} d =
         let b = noted.begun in
@@ -364,7 +365,7 @@ note-new {room} {table} {digits} {rules} {index} notes {shape} {kind} {here} {k}
     })
 
 -- What an H line makes has a place then.
-module _ {rules : List Rule} {rows : List Record} {table digits : List ℕ} {m shape kind s r heads h : ℕ} {codes index : List ℕ} {ways : List (List ℕ)} {fired : List ℕ} {n : ℕ}
+module _ {rules : List Rule} {rows : List Record} {table digits : List ℕ} {m shape kind s r heads h : ℕ} {codes index : List ℕ} {ways : List (List ℕ)} {fired : List Bool} {n : ℕ}
     (x : Heading rules rows table digits m shape kind s r heads h codes index ways fired n) (code : ℕ) (is : MadeOf (rule_in (row_bytes table r)) h digits code) where
   pub new_there : {index' : List ℕ} → index' ≡ set index code (n + 1) → 1 ≤ get_or index' code 0
   new_there e =
@@ -376,7 +377,7 @@ module _ {rules : List Rule} {rows : List Record} {table digits : List ℕ} {m s
   seen_there placed e = rw e (omega (arith, placed))
 
 -- An H line of a rule that fires is tried and noted.
-module _ {rules : List Rule} {rows : List Record} {table digits : List ℕ} {m shape kind s r heads h : ℕ} {codes index : List ℕ} {ways : List (List ℕ)} {fired : List ℕ} {n : ℕ}
+module _ {rules : List Rule} {rows : List Record} {table digits : List ℕ} {m shape kind s r heads h : ℕ} {codes index : List ℕ} {ways : List (List ℕ)} {fired : List Bool} {n : ℕ}
     (x : Heading rules rows table digits m shape kind s r heads h codes index ways fired n) {room : ℕ} {notes : List (List ℕ)} {starts : List ℕ} {k : ℕ}
     (y : Noting room table m codes index notes starts s k r h) (code : ℕ) (is : MadeOf (rule_in (row_bytes table r)) h digits code) (high : h < heads)
     {codes' index' : List ℕ} {notes' : List (List ℕ)} (w : WrittenAt notes notes' k ((8 * r + 2 * h) ∷ (get_or index' code 0 - 1) ∷ [])) where

@@ -1,6 +1,6 @@
 -- The laws of following links: the same few for each level of loops, and one for each event. Assumes nothing.
 use mathlib.Core.Path.{◌≡◌, refl, sym, subst, ap, ◌∙◌}
-use mathlib.Core.Bool.{true, false, false≢true}
+use mathlib.Core.Bool.{Bool, true, false, false≢true}
 use mathlib.Core.List.{List}
 use mathlib.Core.Logic.{◌⊎◌, inl, inr, ⊎_elim, by_cases}
 use Prim.Native.Nat.{ℕ, ◌+◌, ◌*◌, ◌/◌, ◌≤◌, ◌<◌}
@@ -9,11 +9,10 @@ use native.Mathlib.Decide.{ℕ_discrete}
 use lib.ListN.{get_or, set, length-set}
 use lib.Seq.{get_or-set_same, get_or-set_other}
 use Rattle.judging.specs.Inner.Nodes.{at, put, from_of, link_of, put_raise, weight}
-use Rattle.judging.specs.Inner.Passes.{changes, overs, is_calm, is_over, node_of, Live, Done, Same, Rests, Just, Upto, FreshLink, NoSource, BestPlace, BestFrom, Best, sum_to}
+use Rattle.judging.specs.Inner.Passes.{changes, overs, is_calm, is_over, node_of, Live, Done, Same, Rests, Just, Upto, FreshLink, NoSource, BestPlace, BestFrom, sum_to}
 use Rattle.judging.specs.declared.spread.Raised.{Raised}
 use Rattle.judging.specs.declared.spread.Raised.TheVariants.{Nothing, Node, Over}
-use Rattle.judging.specs.declared.spread.Source.{Source}
-use Rattle.judging.specs.declared.spread.Source.TheVariants.{Place, Nowhere}
+use Rattle.std.specs.Prelude.{Option, None, Some}
 use Rattle.judging.proofs.NodeLaws.{Change, put_change, put_grid, from_put, link_put, length-put_raise, sum_change}
 use Rattle.judging.proofs.BackLaws.{raise}
 
@@ -33,11 +32,6 @@ not_calm Nothing e = absurd (false≢true (sym e))
 not_calm (Node v) e = refl
 not_calm (Over v) e = refl
 
-pub over_is : (r : Raised) → is_over r ≡ true → overs r ≡ 1
-over_is Nothing e = absurd (false≢true e)
-over_is (Node v) e = absurd (false≢true e)
-over_is (Over v) e = refl
-
 pub not_over : (r : Raised) → is_over r ≡ false → overs r ≡ 0
 not_over Nothing e = refl
 not_over (Node v) e = refl
@@ -50,7 +44,7 @@ over_or_not (Over v) = inr refl
 
 -- Nothing was done, and every link of P rests where the following goes on.
 pub stay :
-    {n : ℕ} {P : ℕ → ℕ → ℕ → Type 0} {g raises : List (List ℕ)} {waiting : List ℕ} {last : Raised} → Live n g raises waiting last
+    {n : ℕ} {P : ℕ → ℕ → ℕ → Type 0} {g raises : List (List ℕ)} {waiting : List Bool} {last : Raised} → Live n g raises waiting last
     → (overs last ≡ 0 → (u v code : ℕ) → P u v code → Rests g waiting u v code)
     → Done n P g raises waiting last g raises waiting last
 stay l rests =
@@ -67,18 +61,18 @@ stay l rests =
     }
 
 pub skip :
-    {n : ℕ} {P : ℕ → ℕ → ℕ → Type 0} {g raises : List (List ℕ)} {waiting : List ℕ} {last : Raised} → Live n g raises waiting last
+    {n : ℕ} {P : ℕ → ℕ → ℕ → Type 0} {g raises : List (List ℕ)} {waiting : List Bool} {last : Raised} → Live n g raises waiting last
     → ((u v code : ℕ) → P u v code → ⊥) → Done n P g raises waiting last g raises waiting last
 skip l none = stay l (λ q u v code p. absurd (none u v code p))
 
 pub none :
-    {n : ℕ} {P : ℕ → ℕ → ℕ → ℕ → Type 0} {g raises : List (List ℕ)} {waiting : List ℕ} {last : Raised} → Live n g raises waiting last
+    {n : ℕ} {P : ℕ → ℕ → ℕ → ℕ → Type 0} {g raises : List (List ℕ)} {waiting : List Bool} {last : Raised} → Live n g raises waiting last
     → Done n (Upto 0 P) g raises waiting last g raises waiting last
 none l = skip l (λ u v code p. let b = p.below in omega arith)
 
 -- First the links of P, then those of Q.
 pub both :
-    {n : ℕ} {P Q R : ℕ → ℕ → ℕ → Type 0} {g₀ g₁ g₂ f₀ f₁ f₂ : List (List ℕ)} {w₀ w₁ w₂ : List ℕ} {r₀ r₁ r₂ : Raised}
+    {n : ℕ} {P Q R : ℕ → ℕ → ℕ → Type 0} {g₀ g₁ g₂ f₀ f₁ f₂ : List (List ℕ)} {w₀ w₁ w₂ : List Bool} {r₀ r₁ r₂ : Raised}
     → ((u v code : ℕ) → P u v code → R u v code) → ((u v code : ℕ) → Q u v code → R u v code)
     → ((u v code : ℕ) → R u v code → P u v code ⊎ Q u v code)
     → Done n P g₀ f₀ w₀ r₀ g₁ f₁ w₁ r₁ → Done n Q g₁ f₁ w₁ r₁ g₂ f₂ w₂ r₂ → Done n R g₀ f₀ w₀ r₀ g₂ f₂ w₂ r₂
@@ -113,7 +107,7 @@ both {P = P} {Q = Q} {R = R} {g₀ = g₀} {g₁ = g₁} {g₂ = g₂} {f₀ = f
 
 -- The followed links are some of R, and all of R rest.
 pub wider :
-    {n : ℕ} {P R : ℕ → ℕ → ℕ → Type 0} {g₀ g f₀ f : List (List ℕ)} {w₀ w : List ℕ} {r₀ r : Raised} → ((u v code : ℕ) → P u v code → R u v code)
+    {n : ℕ} {P R : ℕ → ℕ → ℕ → Type 0} {g₀ g f₀ f : List (List ℕ)} {w₀ w : List Bool} {r₀ r : Raised} → ((u v code : ℕ) → P u v code → R u v code)
     → Done n P g₀ f₀ w₀ r₀ g f w r → (overs r ≡ 0 → (u v code : ℕ) → R u v code → Rests g w u v code) → Done n R g₀ f₀ w₀ r₀ g f w r
 wider p a rests =
     record {
@@ -130,14 +124,14 @@ wider p a rests =
 
 -- The same links, named otherwise.
 pub alike :
-    {n : ℕ} {P R : ℕ → ℕ → ℕ → Type 0} {g₀ g f₀ f : List (List ℕ)} {w₀ w : List ℕ} {r₀ r : Raised}
+    {n : ℕ} {P R : ℕ → ℕ → ℕ → Type 0} {g₀ g f₀ f : List (List ℕ)} {w₀ w : List Bool} {r₀ r : Raised}
     → ((u v code : ℕ) → P u v code → R u v code) → ((u v code : ℕ) → R u v code → P u v code)
     → Done n P g₀ f₀ w₀ r₀ g f w r → Done n R g₀ f₀ w₀ r₀ g f w r
 alike p s a = wider p a (λ l u v code e. a.rests l u v code (s u v code e))
 
 -- One level more.
 pub next :
-    {n : ℕ} {P : ℕ → ℕ → ℕ → ℕ → Type 0} {k : ℕ} {g₀ g₁ g₂ f₀ f₁ f₂ : List (List ℕ)} {w₀ w₁ w₂ : List ℕ} {r₀ r₁ r₂ : Raised}
+    {n : ℕ} {P : ℕ → ℕ → ℕ → ℕ → Type 0} {k : ℕ} {g₀ g₁ g₂ f₀ f₁ f₂ : List (List ℕ)} {w₀ w₁ w₂ : List Bool} {r₀ r₁ r₂ : Raised}
     → Done n (Upto k P) g₀ f₀ w₀ r₀ g₁ f₁ w₁ r₁ → Done n (P k) g₁ f₁ w₁ r₁ g₂ f₂ w₂ r₂
     → Done n (Upto (k + 1) P) g₀ f₀ w₀ r₀ g₂ f₂ w₂ r₂
 next {P = P} {k = k} a b =
@@ -152,16 +146,12 @@ next {P = P} {k = k} a b =
 
 -- All levels.
 pub whole :
-    {n : ℕ} {P : ℕ → ℕ → ℕ → ℕ → Type 0} {k m : ℕ} {g₀ g f₀ f : List (List ℕ)} {w₀ w : List ℕ} {r₀ r : Raised}
+    {n : ℕ} {P : ℕ → ℕ → ℕ → ℕ → Type 0} {k m : ℕ} {g₀ g f₀ f : List (List ℕ)} {w₀ w : List Bool} {r₀ r : Raised}
     → Done n (Upto k P) g₀ f₀ w₀ r₀ g f w r → k ≤ m → m ≤ k → Done n (Upto m P) g₀ f₀ w₀ r₀ g f w r
 whole {n} {P} {k} {m} {g₀} {g} {f₀} {f} {w₀} {w} {r₀} {r} d a b =
     let q : k ≡ m = omega arith in subst (λ (j : ℕ). Done n (Upto j P) g₀ f₀ w₀ r₀ g f w r) q d
 
-module _ {n : ℕ} {g raises : List (List ℕ)} {waiting : List ℕ} {last : Raised} (l : Live n g raises waiting last) (u v code : ℕ) where
-  -- A node is above n already.
-  pub stopped : overs last ≡ 1 → Done n (Just u v code) g raises waiting last g raises waiting last
-  stopped o = stay l (λ q. let y : ⊥ = omega arith in absurd y)
-
+module _ {n : ℕ} {g raises : List (List ℕ)} {waiting : List Bool} {last : Raised} (l : Live n g raises waiting last) (u v code : ℕ) where
   -- There is nothing to raise.
   pub calm : at g u + weight code ≤ at g v → Done n (Just u v code) g raises waiting last g raises waiting last
   calm h = stay l (λ q x y z e. inr (rw (e.from_is, e.to_is, e.code_is) h))
@@ -183,12 +173,12 @@ module _ {n : ℕ} {g raises : List (List ℕ)} {waiting : List ℕ} {last : Rai
     link_change : Change (link_of raises) (link_of (put_raise raises v u code)) v code
     link_change = link_put raises v u code (let s = l.raise_size in let m = low_node in omega arith)
 
-    raised_live : Live n (put g v (at g u + weight code)) (put_raise raises v u code) (set waiting (v / 7) 1) last₁
+    raised_live : Live n (put g v (at g u + weight code)) (put_raise raises v u code) (set waiting (v / 7) true) last₁
     raised_live =
         record {
           grid = put_grid l.grid v (at g u + weight code) low_node;
           raise_size = length-put_raise raises v u code ∙ l.raise_size;
-          size = length-set waiting (v / 7) 1 ∙ l.size;
+          size = length-set waiting (v / 7) true ∙ l.size;
           small = l.small;
           timed = raise l.timed up pg from_change link_change;
           node = λ b. omega arith;
@@ -207,18 +197,18 @@ module _ {n : ℕ} {g raises : List (List ℕ)} {waiting : List ℕ} {last : Rai
               named;
         }
 
-    set_mark : (s : ℕ) → get_or waiting s 0 ≡ 1 → get_or (set waiting (v / 7) 1) s 0 ≡ 1
+    set_mark : (s : ℕ) → get_or waiting s false ≡ true → get_or (set waiting (v / 7) true) s false ≡ true
     set_mark s e =
         by_cases (ℕ_discrete s (v / 7))
-        (λ (q : s ≡ v / 7). rw q (get_or-set_same waiting (v / 7) 1 0 (let z = l.size in let m = low_node in omega arith)))
-        (λ (q : s ≡ v / 7 → ⊥). get_or-set_other waiting (v / 7) s 1 0 q ∙ e)
+        (λ (q : s ≡ v / 7). rw q (get_or-set_same waiting (v / 7) true false (let z = l.size in let m = low_node in omega arith)))
+        (λ (q : s ≡ v / 7 → ⊥). get_or-set_other waiting (v / 7) s true false q ∙ e)
 
     -- A link from another shape than v's rests as it did.
-    kept : (x y z : ℕ) → at g x + weight z ≤ at g y → Rests (put g v (at g u + weight code)) (set waiting (v / 7) 1) x y z
+    kept : (x y z : ℕ) → at g x + weight z ≤ at g y → Rests (put g v (at g u + weight code)) (set waiting (v / 7) true) x y z
     kept x y z h =
         by_cases (ℕ_discrete (x / 7) (v / 7))
         (λ (q : x / 7 ≡ v / 7).
-        inl (rw q (get_or-set_same waiting (v / 7) 1 0 (let z = l.size in let m = low_node in omega arith))))
+        inl (rw q (get_or-set_same waiting (v / 7) true false (let z = l.size in let m = low_node in omega arith))))
         (λ (q : x / 7 ≡ v / 7 → ⊥).
         inr (omega (arith, pg.other x (λ e. q (ap (λ (i : ℕ). i / 7) e)), grown y)))
       where
@@ -229,16 +219,16 @@ module _ {n : ℕ} {g raises : List (List ℕ)} {waiting : List ℕ} {last : Rai
             (λ (q : y ≡ v → ⊥). omega (arith, pg.other y q))
 
     -- The link itself rests now.
-    itself : Rests (put g v (at g u + weight code)) (set waiting (v / 7) 1) u v code
+    itself : Rests (put g v (at g u + weight code)) (set waiting (v / 7) true) u v code
     itself =
         by_cases (ℕ_discrete (u / 7) (v / 7))
         (λ (q : u / 7 ≡ v / 7).
-        inl (rw q (get_or-set_same waiting (v / 7) 1 0 (let z = l.size in let m = low_node in omega arith))))
+        inl (rw q (get_or-set_same waiting (v / 7) true false (let z = l.size in let m = low_node in omega arith))))
         (λ (q : u / 7 ≡ v / 7 → ⊥). inr (omega (arith, pg.other u (λ e. q (ap (λ (i : ℕ). i / 7) e)), pg.same)))
 
     -- The node is raised.
     pub lift :
-        Done n (Just u v code) g raises waiting last (put g v (at g u + weight code)) (put_raise raises v u code) (set waiting (v / 7) 1) last₁
+        Done n (Just u v code) g raises waiting last (put g v (at g u + weight code)) (put_raise raises v u code) (set waiting (v / 7) true) last₁
     lift =
         record {
           live = raised_live;
@@ -268,31 +258,28 @@ module _ {n : ℕ} {g raises : List (List ℕ)} {waiting : List ℕ} {last : Rai
     -- The same, of numbers that are known by equations.
     pub lifted :
         {x t : ℕ} {g₁ f₁ : List (List ℕ)} → x ≡ at g u + weight code → g₁ ≡ put g v x → f₁ ≡ put_raise raises v u code → t ≡ v / 7
-        → Done n (Just u v code) g raises waiting last g₁ f₁ (set waiting t 1) last₁
+        → Done n (Just u v code) g raises waiting last g₁ f₁ (set waiting t true) last₁
     lifted e eg ef et = rw (eg, ef, e, et) lift
 
 -- What was left is known by equations.
 pub arrived :
-    {n : ℕ} {P : ℕ → ℕ → ℕ → Type 0} {g₀ g g₁ f₀ f f₁ : List (List ℕ)} {w₀ w w₁ : List ℕ} {r₀ r r₁ : Raised}
+    {n : ℕ} {P : ℕ → ℕ → ℕ → Type 0} {g₀ g g₁ f₀ f f₁ : List (List ℕ)} {w₀ w w₁ : List Bool} {r₀ r r₁ : Raised}
     → g ≡ g₁ → f ≡ f₁ → w ≡ w₁ → r ≡ r₁ → Done n P g₀ f₀ w₀ r₀ g₁ f₁ w₁ r₁ → Done n P g₀ f₀ w₀ r₀ g f w r
 arrived eg ef ew er d = rw (eg, ef, ew, er) d
 
 -- The best source among the fields from k on, and its generation; 0 where none of them is a source.
-abbrev GenerationOf : List (List ℕ) → ℕ → Source → ℕ → Type 0
-GenerationOf g s (Place p) x = at g (7 * s + p) ≡ x
-GenerationOf g s Nowhere x = x ≡ 0
+abbrev GenerationOf : List (List ℕ) → ℕ → Option ℕ → ℕ → Type 0
+GenerationOf g s (Some p) x = at g (7 * s + p) ≡ x
+GenerationOf g s None x = x ≡ 0
 
-pub record Among (bytes : List ℕ) (g : List (List ℕ)) (s k : ℕ) (source : Source) (x : ℕ) : Type 0 where
+pub record Among (bytes : List ℕ) (g : List (List ℕ)) (s k : ℕ) (source : Option ℕ) (x : ℕ) : Type 0 where
   pub best : BestFrom bytes g s k source
   pub is : GenerationOf g s source x
 
 module _ {bytes : List ℕ} {g : List (List ℕ)} {s : ℕ} where
-  pub among_none : Among bytes g s 7 Nowhere 0
-  among_none = record { best = λ q l m o. omega arith; is = refl }
-
   -- Field i is no source, or a lower one.
-  pub among_same : {k i x : ℕ} (source : Source) → Among bytes g s k source x → k ≤ i + 1 → (get_or bytes (21 + i) 0 ≡ 1 → at g (7 * s + i) < x) → Among bytes g s i source x
-  among_same {k} {i} {x} Nowhere a b low =
+  pub among_same : {k i x : ℕ} (source : Option ℕ) → Among bytes g s k source x → k ≤ i + 1 → (get_or bytes (21 + i) 0 ≡ 1 → at g (7 * s + i) < x) → Among bytes g s i source x
+  among_same {k} {i} {x} None a b low =
       record {
         best = λ q l m o.
             by_cases (ℕ_discrete q i)
@@ -300,7 +287,7 @@ module _ {bytes : List ℕ} {g : List (List ℕ)} {s : ℕ} where
             (λ (z : q ≡ i → ⊥). a.best q (omega arith) m o);
         is = a.is;
       }
-  among_same {k} {i} {x} (Place p) a b low =
+  among_same {k} {i} {x} (Some p) a b low =
       record {
         best =
             record {
@@ -314,39 +301,15 @@ module _ {bytes : List ℕ} {g : List (List ℕ)} {s : ℕ} where
         is = a.is;
       }
 
-  -- Field i is a source, and none so far is above it.
-  pub among_new : {k i x y : ℕ} (source : Source) → Among bytes g s k source x → k ≤ i + 1 → i < 7 → get_or bytes (21 + i) 0 ≡ 1 → y ≡ at g (7 * s + i) → x ≤ y
-      → Among bytes g s i (Place i) y
-  among_new {k} {i} {x} {y} source a b l o e up =
-      record {
-        best =
-            record {
-              place = l;
-              source = o;
-              most = λ q m h t.
-                  by_cases (ℕ_discrete q i)
-                  (λ (z : q ≡ i). rw z (omega arith))
-                  (λ (z : q ≡ i → ⊥). omega (arith, lower source a.best a.is q (omega arith) h t));
-            };
-        is = sym e;
-      }
-    where
-      lower : (source : Source) → BestFrom bytes g s k source → GenerationOf g s source x → (q : ℕ) → k ≤ q → q < 7 → get_or bytes (21 + q) 0 ≡ 1 → at g (7 * s + q) ≤ x
-      lower Nowhere none is q m h t = absurd (none q m h t)
-      lower (Place p) best is q m h t = omega (arith, best.most q m h t)
-
-  pub among_best : {k x : ℕ} {source : Source} → Among bytes g s k source x → k ≡ 0 → Best bytes g s source
-  among_best {source = source} a z = subst (λ (k : ℕ). BestFrom bytes g s k source) z a.best
-
 -- A rule without sources has no fresh links.
 pub fresh-none :
-    {n : ℕ} {bytes : List ℕ} {s y z : ℕ} {g raises : List (List ℕ)} {waiting : List ℕ} {last : Raised} → Live n g raises waiting last → NoSource bytes 0
+    {n : ℕ} {bytes : List ℕ} {s y z : ℕ} {g raises : List (List ℕ)} {waiting : List Bool} {last : Raised} → Live n g raises waiting last → NoSource bytes 0
     → Done n (Upto 7 (FreshLink bytes s y z)) g raises waiting last g raises waiting last
 fresh-none l none = skip l (λ u v code f. none f.number (omega arith) f.below f.here.source)
 
 -- After the fresh link from the best source the others rest.
 pub fresh-best :
-    {n : ℕ} {bytes : List ℕ} {s y z p : ℕ} {g₀ g f₀ f : List (List ℕ)} {w₀ w : List ℕ} {r₀ r : Raised} → BestPlace bytes g₀ s 0 p
+    {n : ℕ} {bytes : List ℕ} {s y z p : ℕ} {g₀ g f₀ f : List (List ℕ)} {w₀ w : List Bool} {r₀ r : Raised} → BestPlace bytes g₀ s 0 p
     → Done n (Just (7 * s + p) y z) g₀ f₀ w₀ r₀ g f w r → Done n (Upto 7 (FreshLink bytes s y z)) g₀ f₀ w₀ r₀ g f w r
 fresh-best {s = s} {y} {z} {p} {g = g} {w = w} b a =
     wider
@@ -358,6 +321,6 @@ fresh-best {s = s} {y} {z} {p} {g = g} {w = w} b a =
     (a.keeps (7 * s + e.number) (7 * s + p) 0 (inr (omega (arith, b.most e.number (omega arith) e.below e.here.source))))))
   where
     other : (q : ℕ) → q < 7 → Rests g w (7 * s + p) y z → Rests g w (7 * s + q) (7 * s + p) 0 → Rests g w (7 * s + q) y z
-    other q m (inl c) d = inl (subst (λ (i : ℕ). get_or w i 0 ≡ 1) (let e : (7 * s + p) / 7 ≡ (7 * s + q) / 7 = omega arith in e) c)
+    other q m (inl c) d = inl (subst (λ (i : ℕ). get_or w i false ≡ true) (let e : (7 * s + p) / 7 ≡ (7 * s + q) / 7 = omega arith in e) c)
     other q m (inr c) (inl d) = inl d
     other q m (inr c) (inr d) = inr (omega arith)

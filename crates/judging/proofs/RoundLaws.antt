@@ -1,17 +1,16 @@
 -- What raising the generations keeps from sweep to sweep, and what it ends with. Assumes nothing.
 use mathlib.Core.Path.{◌≡◌, refl, sym, subst, ap}
-use mathlib.Core.Bool.{true, false, false≢true}
+use mathlib.Core.Bool.{Bool, true, false, false≢true}
 use mathlib.Core.List.{List}
 use mathlib.Core.Logic.{◌⊎◌, inl, inr, ⊎_elim, by_cases}
 use Prim.Native.Nat.{ℕ, ◌+◌, ◌*◌, ◌/◌, ◌≤◌, ◌<◌}
 use native.Mathlib.Omega.{arith}
 use native.Mathlib.Decide.{ℕ_discrete}
 use lib.ListN.{length}
+use Rattle.std.specs.Prelude.{Option, None, Some, is_some}
 use Rattle.rules.specs.Table.{table_rules, TableFits}
 use Rattle.judging.specs.Inner.Nodes.{at, from_of, link_of, Zeros, back, weight, Stable, Turn}
-use Rattle.judging.specs.Inner.Links.{Link, Closed, Spreads, turning_number, has_turn}
-use Rattle.judging.specs.declared.spread.Turning.{Turning}
-use Rattle.judging.specs.declared.spread.Turning.TheVariants.{Nowhere, At}
+use Rattle.judging.specs.Inner.Links.{Link, Closed, Spreads, turning_number}
 use Rattle.judging.specs.Inner.Passes.{changes, overs, node_of, Live, Swept, Same, Rests, EachLink, Inside, Walked, sum_to}
 use Rattle.judging.specs.declared.spread.Raised.{Raised}
 use Rattle.judging.specs.declared.spread.Raised.TheVariants.{Nothing}
@@ -24,27 +23,27 @@ use Rattle.judging.proofs.GraphLaws.{to_link, from_link, sane}
 use Rattle.judging.proofs.FreshLaws.{first_rests}
 
 -- A node of a loop, as a number.
-pub no_turn : (t : Turning) → has_turn t ≡ false → turning_number t ≡ 0
-no_turn Nowhere e = refl
-no_turn (At y) e = absurd (false≢true (sym e))
+pub no_turn : (t : Option ℕ) → is_some t ≡ false → turning_number t ≡ 0
+no_turn None e = refl
+no_turn (Some y) e = absurd (false≢true (sym e))
 
-pub some_turn : (t : Turning) → has_turn t ≡ true → turning_number t ≡ 0 → ⊥
-some_turn Nowhere e z = false≢true e
-some_turn (At y) e z = omega arith
+pub some_turn : (t : Option ℕ) → is_some t ≡ true → turning_number t ≡ 0 → ⊥
+some_turn None e z = false≢true e
+some_turn (Some y) e z = omega arith
 
 -- Between two sweeps.
-pub record Round (table : List ℕ) (rules : ℕ) (codes index : List ℕ) (count : ℕ) (g raises : List (List ℕ)) (waiting : List ℕ) : Type 0 where
+pub record Round (table : List ℕ) (rules : ℕ) (codes index : List ℕ) (count : ℕ) (g raises : List (List ℕ)) (waiting : List Bool) : Type 0 where
   pub live : Live (7 * count) g raises waiting Nothing
   pub rests : (u v code : ℕ) → EachLink table rules codes index count u v code → Rests g waiting u v code
   pub raised : (v : ℕ) → 0 < at g v → Link (table_rules table rules) codes count (from_of raises v) v (link_of raises v)
 
-pub height : {n : ℕ} {g raises : List (List ℕ)} {waiting : List ℕ} → Live n g raises waiting Nothing → sum_to n (at g) ≤ n * n
+pub height : {n : ℕ} {g raises : List (List ℕ)} {waiting : List Bool} → Live n g raises waiting Nothing → sum_to n (at g) ≤ n * n
 height {n = n} {g = g} l = sum_low n n (at g) (λ v. l.low v (λ o p. omega arith))
 
 module _ {table : List ℕ} {rules : ℕ} (tf : TableFits table rules) {codes index : List ℕ} {count : ℕ}
     (closed : Closed (table_rules table rules) codes index count) where
   -- Nothing is raised yet, and the shapes wait that fresh links may lead from.
-  pub nothing : {g raises : List (List ℕ)} {waiting : List ℕ} → Zeros g → length raises ≡ 3584 → FirstWaiting table rules codes count waiting
+  pub nothing : {g raises : List (List ℕ)} {waiting : List Bool} → Zeros g → length raises ≡ 3584 → FirstWaiting table rules codes count waiting
       → Round table rules codes index count g raises waiting
   nothing {g} {raises} z size first =
       let few = closed.few in
@@ -64,8 +63,8 @@ module _ {table : List ℕ} {rules : ℕ} (tf : TableFits table rules) {codes in
         raised = λ v l. let y : ⊥ = omega (arith, z.zero_at v) in absurd y;
       }
 
-  module _ {g₀ raises₀ : List (List ℕ)} {waiting₀ : List ℕ} (round : Round table rules codes index count g₀ raises₀ waiting₀)
-      {g raises : List (List ℕ)} {waiting : List ℕ} {last : Raised}
+  module _ {g₀ raises₀ : List (List ℕ)} {waiting₀ : List Bool} (round : Round table rules codes index count g₀ raises₀ waiting₀)
+      {g raises : List (List ℕ)} {waiting : List Bool} {last : Raised}
       (s : Swept (7 * count) (EachLink table rules codes index count) count g₀ raises₀ g raises waiting last) where
     kept : Kept (Link (table_rules table rules) codes count) (at g) (from_of raises) (link_of raises)
     kept = record { edge = λ v l. go v l (s.edges v); timed = s.live.timed }

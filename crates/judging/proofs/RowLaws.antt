@@ -7,10 +7,12 @@ use native.Mathlib.Numerals.{add-one}
 use native.Mathlib.Omega.{arith}
 use borrow.Author.Count.{below_more}
 use lib.ListN.{length, get_or, set, drop, length-drop}
-use lib.Seq.{length-take-le}
+use lib.Seq.{get_or-drop, length-take-le}
+use Rattle.std.proofs.lemmas.List.{get_or-take}
 use Rattle.patterns.specs.Lists.{Numbered}
 use Rattle.patterns.specs.Pattern.{numbers_pattern}
 use Rattle.sheet.specs.Line.{Line}
+use Rattle.sheet.proofs.LentLines.{Eight, from}
 use Rattle.chase.specs.Rules.{Rule, nth}
 use Rattle.chase.specs.Making.{Record}
 use Rattle.chase.specs.Run.{row_record}
@@ -26,6 +28,17 @@ use Rattle.rules.specs.Inner.Rows.{row_numbers, RowAt}
 use Rattle.judging.specs.Inner.Rows.{RowsFound}
 use Rattle.judging.proofs.CodeLaws.{pattern-fits}
 use Rattle.judging.proofs.FoundLaws.{new_shape, has_more, has_last, room_of, marked_has, kept_push, more_than, derived_row}
+
+-- Line n of the lent numbers, where they are taken eight by eight.
+module _ {numbers line : List ℕ} {n : ℕ} (e : Eight numbers n line) where
+  pub line_there : 8 * n < length numbers
+  line_there = let room = e.room in omega arith
+
+  pub number_at : (k : ℕ) → k < 8 → get_or line k 0 ≡ get_or numbers (8 * n + k) 0
+  number_at k h = ap (λ (l : List ℕ). get_or l k 0) e.is ∙ get_or-take 8 (from n numbers) k 0 h ∙ get_or-drop (8 * n) numbers k 0
+
+  pub letter_at : get_or line 0 0 ≡ get_or numbers (8 * n) 0
+  letter_at = number_at 0 (omega arith) ∙ ap (λ (i : ℕ). get_or numbers i 0) (omega arith)
 
 -- The rows' shapes.
 pub rows_begun : (rules : List Rule) (rows : List Record) (codes index : List ℕ) (ways : List (List ℕ)) → length codes ≡ 512 → Clear index 17792

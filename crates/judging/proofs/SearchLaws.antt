@@ -1,6 +1,6 @@
 -- The search over shapes, rules and H lines: where it stands, and how each event keeps it. Assumes nothing.
 use mathlib.Core.Path.{◌≡◌, refl, sym, subst, subst₂, ap, ◌∙◌}
-use mathlib.Core.Bool.{true, false}
+use mathlib.Core.Bool.{Bool, true, false}
 use mathlib.Core.List.{List, [], ◌∷◌}
 use mathlib.Core.Logic.{by_cases}
 use mathlib.Core.Option.{some, none-ne-some}
@@ -8,6 +8,7 @@ use Prim.Native.Nat.{ℕ, zero, suc, ◌+◌, ◌-◌, ◌*◌, ◌/◌, ◌%◌
 use native.Mathlib.Decide.{ℕ_discrete, dec_lt}
 use native.Mathlib.Numerals.{add-one}
 use native.Mathlib.Omega.{arith}
+use Rattle.std.proofs.lemmas.Bool.{false≢true}
 use lib.ListN.{length, get_or, set, length-set}
 use lib.Seq.{get_or-set_same, get_or-set_other}
 use Rattle.patterns.specs.Pattern.{digits_of}
@@ -22,7 +23,6 @@ use Rattle.judging.specs.Inner.Codes.{shape_at, ShapeFits, shape_from, DigitsFit
 use Rattle.judging.specs.Inner.Firing.{NextFire}
 use Rattle.rules.specs.Table.{rule_in, row_bytes, table_rules, TableFits}
 use Rattle.judging.specs.Inner.Found.{shape_no, Has, via_rule, Kept, Whole, FiredRules}
-use Rattle.rules.specs.Inner.Bytes.{Clear}
 use Rattle.judging.specs.Inner.Rows.{RowsFound}
 use Rattle.chase.proofs.CountLaws.{element_below}
 use Rattle.chase.proofs.CodedLaws.{derived_coded}
@@ -42,36 +42,36 @@ pub record Few (rules : List Rule) : Type 0 where
   pub heads_few : (m : ℕ) (r : Rule) → nth rules m ≡ some r → length r.heads ≤ 4
 
 -- Where the search stands: H lines were tried up to turn t, and rules up to turn 4 * u.
-pub record Doing (rules : List Rule) (rows : List Record) (codes index : List ℕ) (ways : List (List ℕ)) (fired : List ℕ) (n t u : ℕ) : Type 0 where
+pub record Doing (rules : List Rule) (rows : List Record) (codes index : List ℕ) (ways : List (List ℕ)) (fired : List Bool) (n t u : ℕ) : Type 0 where
   pub kept : Kept rules rows codes index ways n
   pub rows_in : (x : Record) → In x rows → Has codes n (shape_of x)
   pub made : (k m j : ℕ) (r : Rule) (h : Head) → k < n → turn k m j < t → nth rules (suc m) ≡ some r → Applies r (shape_no codes k)
       → nth r.heads (suc j) ≡ some h → Has codes n (shape_from r (shape_no codes k) h)
   pub size : length fired ≡ 256
-  pub sound : (i : ℕ) → (get_or fired i 0 ≡ 0 → ⊥) → (get_or fired i 0 ≡ 1) × ((r : Rule) × (nth rules (suc i) ≡ some r) × ((k : ℕ) × (k < n) × Applies r (shape_no codes k)))
-  pub complete : (i k : ℕ) (r : Rule) → k < n → 256 * k + i < u → nth rules (suc i) ≡ some r → Applies r (shape_no codes k) → get_or fired i 0 ≡ 1
+  pub sound : (i : ℕ) → get_or fired i false ≡ true → (r : Rule) × (nth rules (suc i) ≡ some r) × ((k : ℕ) × (k < n) × Applies r (shape_no codes k))
+  pub complete : (i k : ℕ) (r : Rule) → k < n → 256 * k + i < u → nth rules (suc i) ≡ some r → Applies r (shape_no codes k) → get_or fired i false ≡ true
 
 -- The rows' shapes, and nothing tried.
-pub doing_begun : {rules : List Rule} {rows : List Record} {codes index : List ℕ} {ways : List (List ℕ)} {n : ℕ} (fired : List ℕ)
-    → RowsFound rules rows codes index ways n (length rows) → Clear fired 256
+pub doing_begun : {rules : List Rule} {rows : List Record} {codes index : List ℕ} {ways : List (List ℕ)} {n : ℕ} (fired : List Bool)
+    → RowsFound rules rows codes index ways n (length rows) → length fired ≡ 256 → ((i : ℕ) → get_or fired i false ≡ false)
     → Doing rules rows codes index ways fired n (turn 0 0 0) (256 * 0)
-doing_begun {rows = rows} fired found clear =
+doing_begun {rows = rows} fired found size none =
     record {
       kept = found.kept;
       rows_in = λ x i. let s = in_nth rows x i in found.rows_in s.0 x (element_below rows s.0 x s.1) s.1;
       made = λ k m j r h a b e f g. let z : ⊥ = omega arith in absurd z;
-      size = clear.size;
-      sound = λ i m. absurd (m (clear.zeros i));
+      size = size;
+      sound = λ i m. absurd (false≢true (sym (none i) ∙ m));
       complete = λ i k r a b e f. let z : ⊥ = omega arith in absurd z;
     }
 
-module _ {rules : List Rule} {rows : List Record} {codes index : List ℕ} {ways : List (List ℕ)} {fired : List ℕ} {n t u : ℕ} (few : Few rules)
+module _ {rules : List Rule} {rows : List Record} {codes index : List ℕ} {ways : List (List ℕ)} {fired : List Bool} {n t u : ℕ} (few : Few rules)
     (d : Doing rules rows codes index ways fired n t u) where
   -- More was tried: from turn (s, r, h) on, within rule r.
   doing_on : (s r h t' u' : ℕ) → r < 256 → h ≤ 4 → turn s r h ≤ t → t' ≤ turn s (r + 1) 0
       → ((j : ℕ) (w : Rule) (g : Head) → h ≤ j → turn s r j < t' → nth rules (suc r) ≡ some w → Applies w (shape_no codes s) → nth w.heads (suc j) ≡ some g
       → Has codes n (shape_from w (shape_no codes s) g))
-      → ((i k : ℕ) (w : Rule) → k < n → 256 * k + i < u' → nth rules (suc i) ≡ some w → Applies w (shape_no codes k) → get_or fired i 0 ≡ 1)
+      → ((i k : ℕ) (w : Rule) → k < n → 256 * k + i < u' → nth rules (suc i) ≡ some w → Applies w (shape_no codes k) → get_or fired i false ≡ true)
       → Doing rules rows codes index ways fired n t' u'
   doing_on s r h t' u' low high begin end new marks =
       record {
@@ -181,7 +181,7 @@ module _ {rules : List Rule} {rows : List Record} {codes index : List ℕ} {ways
 
   -- The rule fires on the shape.
   pub doing_fires : (s r : ℕ) (w : Rule) → u ≡ 256 * s + r → s < n → nth rules (suc r) ≡ some w → Applies w (shape_no codes s)
-      → Doing rules rows codes index ways (set fired r 1) n t (256 * s + r + 1)
+      → Doing rules rows codes index ways (set fired r true) n t (256 * s + r + 1)
   doing_fires s r w at-u low named applies =
       let b1 = few.rules_few in
       let b2 = element_below rules r w named in
@@ -194,21 +194,15 @@ module _ {rules : List Rule} {rows : List Record} {codes index : List ℕ} {ways
         sound =
             λ i m.
             by_cases (ℕ_discrete i r)
-            (λ (e : i ≡ r). (
-              subst (λ (y : ℕ). get_or (set fired r 1) y 0 ≡ 1) (sym e) (get_or-set_same fired r 1 0 (omega arith)),
-              (w, subst (λ (y : ℕ). nth rules (suc y) ≡ some w) (sym e) named, (s, low, applies)),
-            ))
-            (λ (e : i ≡ r → ⊥).
-            let o = get_or-set_other fired r i 1 0 e in
-            let v = d.sound i (λ (z : get_or fired i 0 ≡ 0). m (o ∙ z)) in
-            (o ∙ v.0, v.1));
+            (λ (e : i ≡ r). (w, subst (λ (y : ℕ). nth rules (suc y) ≡ some w) (sym e) named, (s, low, applies)))
+            (λ (e : i ≡ r → ⊥). d.sound i (sym (get_or-set_other fired r i true false e) ∙ m));
         complete =
             λ i k v a b e f.
             by_cases (ℕ_discrete i r)
-            (λ (q : i ≡ r). subst (λ (y : ℕ). get_or (set fired r 1) y 0 ≡ 1) (sym q) (get_or-set_same fired r 1 0 (omega arith)))
+            (λ (q : i ≡ r). subst (λ (y : ℕ). get_or (set fired r true) y false ≡ true) (sym q) (get_or-set_same fired r true false (omega arith)))
             (λ (q : i ≡ r → ⊥).
             let b4 = element_below rules i v e in
-            get_or-set_other fired r i 1 0 q ∙ d.complete i k v a (let y : 256 * k + i < u = omega (arith, q) in y) e f);
+            get_or-set_other fired r i true false q ∙ d.complete i k v a (let y : 256 * k + i < u = omega (arith, q) in y) e f);
       }
 
   -- No more shapes are left to try.
@@ -241,7 +235,7 @@ module _ {rules : List Rule} {rows : List Record} {codes index : List ℕ} {ways
   )
 
 -- A shape put at the end, of a turn that is before all of its own.
-pub doing_room : {rules : List Rule} {rows : List Record} {codes index : List ℕ} {ways : List (List ℕ)} {fired : List ℕ} {n t u : ℕ}
+pub doing_room : {rules : List Rule} {rows : List Record} {codes index : List ℕ} {ways : List (List ℕ)} {fired : List Bool} {n t u : ℕ}
     → Doing rules rows codes index ways fired n t u → (code : ℕ) (way : List ℕ) → (n ≡ 512 → ⊥) → t ≤ 1024 * n → u ≤ 256 * n
     → Kept rules rows (set codes n code) (set index code (n + 1)) (set ways n way) (n + 1)
     → Doing rules rows (set codes n code) (set index code (n + 1)) (set ways n way) fired (n + 1) t u
@@ -259,9 +253,9 @@ doing_room {codes = codes} {n = n} {t = t} {u = u} d code way ne low-t low-u kep
       sound =
           λ i m.
           let v = d.sound i m in
-          let k = v.1.2.0 in
-          let l = v.1.2.1 in
-          (v.0, (v.1.0, v.1.1, (k, omega arith, subst (Applies v.1.0) (sym (old_shape codes n code room k l)) v.1.2.2)));
+          let k = v.2.0 in
+          let l = v.2.1 in
+          (v.0, v.1, (k, omega arith, subst (Applies v.0) (sym (old_shape codes n code room k l)) v.2.2));
       complete =
           λ i k w a b e f.
           let l : k < n = omega arith in
@@ -269,7 +263,7 @@ doing_room {codes = codes} {n = n} {t = t} {u = u} d code way ne low-t low-u kep
     }
 
 -- What an H line makes, put at the end.
-pub doing_push : {rules : List Rule} {rows : List Record} {codes index : List ℕ} {ways : List (List ℕ)} {fired : List ℕ} {n t u : ℕ} → Few rules
+pub doing_push : {rules : List Rule} {rows : List Record} {codes index : List ℕ} {ways : List (List ℕ)} {fired : List Bool} {n t u : ℕ} → Few rules
     → Doing rules rows codes index ways fired n t u
     → (s r h code : ℕ) (w : Rule) (g : Head) → t ≡ turn s r h → u ≡ 256 * s + r + 1 → s < n → nth rules (suc r) ≡ some w → nth w.heads (suc h) ≡ some g
     → Applies w (shape_no codes s) → shape_at code ≡ shape_from w (shape_no codes s) g → (n ≡ 512 → ⊥) → code < 17792 → ShapeFits (shape_at code) → get_or index code 0 ≡ 0
@@ -290,7 +284,7 @@ doing_push {rules} {codes = codes} {n = n} {t = t} {u = u} few d s r h code w g 
     (subst (Has (set codes n code) (n + 1)) is' (has_last codes n code room))
 
 -- There is no room for what an H line makes.
-pub doing_more : {rules : List Rule} {rows : List Record} {codes index : List ℕ} {ways : List (List ℕ)} {fired : List ℕ} {n t u : ℕ}
+pub doing_more : {rules : List Rule} {rows : List Record} {codes index : List ℕ} {ways : List (List ℕ)} {fired : List Bool} {n t u : ℕ}
     → Doing rules rows codes index ways fired n t u
     → (s r h code : ℕ) (w : Rule) (g : Head) → s < n → nth rules (suc r) ≡ some w → nth w.heads (suc h) ≡ some g
     → Applies w (shape_no codes s) → shape_at code ≡ shape_from w (shape_no codes s) g → n ≡ 512 → code < 17792 → get_or index code 0 ≡ 0
@@ -361,7 +355,7 @@ pub record Ruled (rules : List Rule) (store : List ℕ) (m : ℕ) : Type 0 where
   pub are : table_rules store m ≡ rules
 
 -- Where rules are tried on the shape at place s: rule r is next.
-pub record Ruling (rules : List Rule) (rows : List Record) (store digits : List ℕ) (m shape kind s r : ℕ) (codes index : List ℕ) (ways : List (List ℕ)) (fired : List ℕ) (n : ℕ)
+pub record Ruling (rules : List Rule) (rows : List Record) (store digits : List ℕ) (m shape kind s r : ℕ) (codes index : List ℕ) (ways : List (List ℕ)) (fired : List Bool) (n : ℕ)
     : Type 0 where
   pub r_low : r ≤ m
   pub s_low : s < n
@@ -371,7 +365,7 @@ pub record Ruling (rules : List Rule) (rows : List Record) (store digits : List 
   pub doing : Doing rules rows codes index ways fired n (turn s r 0) (256 * s + r)
 
 -- Where H lines of rule r are tried on it: H line h is next.
-pub record Heading (rules : List Rule) (rows : List Record) (store digits : List ℕ) (m shape kind s r heads h : ℕ) (codes index : List ℕ) (ways : List (List ℕ)) (fired : List ℕ) (n : ℕ)
+pub record Heading (rules : List Rule) (rows : List Record) (store digits : List ℕ) (m shape kind s r heads h : ℕ) (codes index : List ℕ) (ways : List (List ℕ)) (fired : List Bool) (n : ℕ)
     : Type 0 where
   pub h_low : h ≤ heads
   pub r_low : r < m
@@ -397,11 +391,11 @@ along : (P : List ℕ → List ℕ → List (List ℕ) → ℕ → Type 0) (a b 
     → P a b c n → P a' b' c' n'
 along P a b a' b' c c' n n' ea eb ec en x = rw (ea, eb, ec, en) x
 
-module _ {rules : List Rule} {rows : List Record} {store digits : List ℕ} {m shape kind s r : ℕ} {codes index : List ℕ} {ways : List (List ℕ)} {fired : List ℕ} {n : ℕ}
+module _ {rules : List Rule} {rows : List Record} {store digits : List ℕ} {m shape kind s r : ℕ} {codes index : List ℕ} {ways : List (List ℕ)} {fired : List Bool} {n : ℕ}
     (x : Ruling rules rows store digits m shape kind s r codes index ways fired n) where
   -- The rule fires.
   pub ruling_fires : (heads : ℕ) → FiresOn (rule_in (row_bytes store r)) kind digits true → r < m → heads ≡ get_or (row_bytes store r) 28 0
-      → Heading rules rows store digits m shape kind s r heads 0 codes index ways (set fired r 1) n
+      → Heading rules rows store digits m shape kind s r heads 0 codes index ways (set fired r true) n
   ruling_fires heads f low are =
       let a = fires_yes x.on (rule_in (row_bytes store r)) f in
       record {
@@ -443,7 +437,7 @@ module _ {rules : List Rule} {rows : List Record} {store digits : List ℕ} {m s
       doing_shape (few_ruled x.ruled) x.doing s r refl refl (omega arith) (omega arith)
 
 -- The rules from rule r on, so many, do not fire.
-ruling_skip : {rules : List Rule} {rows : List Record} {store digits : List ℕ} {m shape kind s r : ℕ} {codes index : List ℕ} {ways : List (List ℕ)} {fired : List ℕ} {n : ℕ} (k : ℕ)
+ruling_skip : {rules : List Rule} {rows : List Record} {store digits : List ℕ} {m shape kind s r : ℕ} {codes index : List ℕ} {ways : List (List ℕ)} {fired : List Bool} {n : ℕ} (k : ℕ)
     → Ruling rules rows store digits m shape kind s r codes index ways fired n → r + k ≤ m
     → ((i : ℕ) → r ≤ i → i < r + k → FiresOn (rule_in (row_bytes store i)) kind digits false)
     → Ruling rules rows store digits m shape kind s (r + k) codes index ways fired n
@@ -456,7 +450,7 @@ ruling_skip {rules} {rows} {store} {digits} {m} {shape} {kind} {s} {r} {codes} {
     (ruling_skip {r = r + 1} k (ruling_still x (still r (omega arith) (omega arith)) (omega arith)) (omega arith) (λ i a b. still i (omega arith) (omega arith)))
 
 -- The next rule that fires is found.
-pub ruling_next : {rules : List Rule} {rows : List Record} {store digits : List ℕ} {m shape kind s r q : ℕ} {codes index : List ℕ} {ways : List (List ℕ)} {fired : List ℕ} {n : ℕ}
+pub ruling_next : {rules : List Rule} {rows : List Record} {store digits : List ℕ} {m shape kind s r q : ℕ} {codes index : List ℕ} {ways : List (List ℕ)} {fired : List Bool} {n : ℕ}
     → Ruling rules rows store digits m shape kind s r codes index ways fired n → NextFire store m r kind digits q
     → Ruling rules rows store digits m shape kind s q codes index ways fired n
 ruling_next {rules} {rows} {store} {digits} {m} {shape} {kind} {s} {r} {q} {codes} {index} {ways} {fired} {n} x f =
@@ -466,7 +460,7 @@ ruling_next {rules} {rows} {store} {digits} {m} {shape} {kind} {s} {r} {q} {code
     subst (λ (v : ℕ). Ruling rules rows store digits m shape kind s v codes index ways fired n) e
     (ruling_skip (q - r) x (omega arith) (λ i l h. f.still i l (omega arith)))
 
-module _ {rules : List Rule} {rows : List Record} {store digits : List ℕ} {m shape kind s r heads h : ℕ} {codes index : List ℕ} {ways : List (List ℕ)} {fired : List ℕ} {n : ℕ}
+module _ {rules : List Rule} {rows : List Record} {store digits : List ℕ} {m shape kind s r heads h : ℕ} {codes index : List ℕ} {ways : List (List ℕ)} {fired : List Bool} {n : ℕ}
     (x : Heading rules rows store digits m shape kind s r heads h codes index ways fired n) where
   -- All H lines were tried.
   pub heading_last : heads ≤ h → Ruling rules rows store digits m shape kind s (r + 1) codes index ways fired n
@@ -553,13 +547,13 @@ module _ {rules : List Rule} {rows : List Record} {store digits : List ℕ} {m s
         (applies_here (rule_in (row_bytes store r)) codes s shape x.here x.applies) the_made full is.small z
 
 -- Nothing is left to try.
-pub try_all : {rules : List Rule} {rows : List Record} {codes index : List ℕ} {ways : List (List ℕ)} {fired store : List ℕ} {n m : ℕ} → Ruled rules store m → (s : ℕ) → n ≤ s
+pub try_all : {rules : List Rule} {rows : List Record} {codes index : List ℕ} {ways : List (List ℕ)} {fired : List Bool} {store : List ℕ} {n m : ℕ} → Ruled rules store m → (s : ℕ) → n ≤ s
     → Doing rules rows codes index ways fired n (turn s 0 0) (256 * s)
     → Kept rules rows codes index ways n × Whole rules rows codes n × FiredRules rules codes fired n
 try_all ruled s all d = doing_all (few_ruled ruled) d s refl refl all
 
 -- The first rule is next.
-pub ruling_first : {rules : List Rule} {rows : List Record} {store codes index : List ℕ} {ways : List (List ℕ)} {fired : List ℕ} {m n t : ℕ} (s shape : ℕ) (digits : List ℕ)
+pub ruling_first : {rules : List Rule} {rows : List Record} {store codes index : List ℕ} {ways : List (List ℕ)} {fired : List Bool} {m n t : ℕ} (s shape : ℕ) (digits : List ℕ)
     → Ruled rules store m → Doing rules rows codes index ways fired n t (256 * s) → t ≡ turn s 0 0 → s < n → shape ≡ get_or codes s 0
     → digits ≡ digits_of (shape % 278 + 1)
     → Ruling rules rows store digits m shape (shape / 278 + 1) s 0 codes index ways fired n

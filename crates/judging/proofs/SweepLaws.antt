@@ -1,5 +1,6 @@
 -- The waiting shapes' links followed, shape by shape: one law for each event. Assumes nothing.
 use mathlib.Core.Path.{◌≡◌, refl, sym, subst, ap, ◌∙◌}
+use mathlib.Core.Bool.{Bool, true, false, false≢true}
 use mathlib.Core.List.{List}
 use mathlib.Core.Logic.{◌⊎◌, inl, inr, ⊎_elim, by_cases}
 use Prim.Native.Nat.{ℕ, ◌+◌, ◌/◌, ◌≤◌, ◌<◌}
@@ -7,19 +8,19 @@ use native.Mathlib.Omega.{arith}
 use native.Mathlib.Decide.{ℕ_discrete}
 use lib.ListN.{get_or, set, length-set}
 use lib.Seq.{get_or-set_same, get_or-set_other}
-use Rattle.judging.specs.Inner.Nodes.{at, from_of, link_of}
+use Rattle.judging.specs.Inner.Nodes.{from_of, link_of}
 use Rattle.judging.specs.Inner.Order.{Ordered}
-use Rattle.judging.specs.Inner.Passes.{changes, overs, Live, Done, Swept, Same, Rests}
+use Rattle.judging.specs.Inner.Passes.{changes, Live, Done, Swept, Same, Rests}
 use Rattle.judging.specs.declared.spread.Raised.{Raised}
 use Rattle.judging.specs.declared.spread.Raised.TheVariants.{Nothing}
 
 -- The shapes at the first i places of the order have had their turn.
-pub record Passed (n : ℕ) (E : ℕ → ℕ → ℕ → Type 0) (order : List ℕ) (i : ℕ) (g₀ f₀ g f : List (List ℕ)) (w : List ℕ) (r : Raised) : Type 0 where
+pub record Passed (n : ℕ) (E : ℕ → ℕ → ℕ → Type 0) (order : List ℕ) (i : ℕ) (g₀ f₀ g f : List (List ℕ)) (w : List Bool) (r : Raised) : Type 0 where
   pub swept : Swept n E 0 g₀ f₀ g f w r
-  pub idle_at : changes r ≡ 0 → (j : ℕ) → j < i → get_or w (get_or order j 0) 0 ≡ 1 → ⊥
+  pub idle_at : changes r ≡ 0 → (j : ℕ) → j < i → get_or w (get_or order j 0) false ≡ true → ⊥
 
 pub begin :
-    {n : ℕ} {E : ℕ → ℕ → ℕ → Type 0} {order : List ℕ} {g raises : List (List ℕ)} {waiting : List ℕ} → Live n g raises waiting Nothing
+    {n : ℕ} {E : ℕ → ℕ → ℕ → Type 0} {order : List ℕ} {g raises : List (List ℕ)} {waiting : List Bool} → Live n g raises waiting Nothing
     → ((u v code : ℕ) → E u v code → Rests g waiting u v code) → Passed n E order 0 g raises g raises waiting Nothing
 begin l rests =
     record {
@@ -37,13 +38,13 @@ begin l rests =
 
 -- A shape's mark is taken away.
 pub unmarked :
-    {n : ℕ} {g raises : List (List ℕ)} {waiting : List ℕ} {last : Raised} (s : ℕ) → Live n g raises waiting last
-    → Live n g raises (set waiting s 0) last
+    {n : ℕ} {g raises : List (List ℕ)} {waiting : List Bool} {last : Raised} (s : ℕ) → Live n g raises waiting last
+    → Live n g raises (set waiting s false) last
 unmarked {waiting = waiting} s l =
     record {
       grid = l.grid;
       raise_size = l.raise_size;
-      size = length-set waiting s 0 ∙ l.size;
+      size = length-set waiting s false ∙ l.size;
       small = l.small;
       timed = l.timed;
       node = l.node;
@@ -51,25 +52,25 @@ unmarked {waiting = waiting} s l =
       high = l.high;
     }
 
-module _ {n : ℕ} {E : ℕ → ℕ → ℕ → Type 0} {order : List ℕ} {i : ℕ} {g₀ g f₀ f : List (List ℕ)} {w : List ℕ} {r : Raised}
+module _ {n : ℕ} {E : ℕ → ℕ → ℕ → Type 0} {order : List ℕ} {i : ℕ} {g₀ g f₀ f : List (List ℕ)} {w : List Bool} {r : Raised}
     (q : Passed n E order i g₀ f₀ g f w r) where
   -- The shape is not waiting.
-  pub idle : (get_or w (get_or order i 0) 0 ≡ 1 → ⊥) → Passed n E order (i + 1) g₀ f₀ g f w r
+  pub idle : get_or w (get_or order i 0) false ≡ false → Passed n E order (i + 1) g₀ f₀ g f w r
   idle d =
       record {
         swept = q.swept;
         idle_at = λ z j b e.
             by_cases (ℕ_discrete j i)
-            (λ (q : j ≡ i). d (subst (λ (j : ℕ). get_or w (get_or order j 0) 0 ≡ 1) q e))
+            (λ (q : j ≡ i). absurd (false≢true (sym d ∙ subst (λ (j : ℕ). get_or w (get_or order j 0) false ≡ true) q e)))
             (λ (d : j ≡ i → ⊥). q.idle_at z j (omega arith) e);
       }
 
   module _ {P : ℕ → ℕ → ℕ → Type 0} (own : (u v code : ℕ) → P u v code → E u v code)
       (split : (u v code : ℕ) → E u v code → P u v code ⊎ (u / 7 ≡ get_or order i 0 → ⊥)) (below : get_or order i 0 < 512)
-      {g₁ f₁ : List (List ℕ)} {w₁ : List ℕ} {r₁ : Raised} (d : Done n P g f (set w (get_or order i 0) 0) r g₁ f₁ w₁ r₁) where
+      {g₁ f₁ : List (List ℕ)} {w₁ : List Bool} {r₁ : Raised} (d : Done n P g f (set w (get_or order i 0) false) r g₁ f₁ w₁ r₁) where
     -- The links of other shapes rest as they did.
-    others : (u v code : ℕ) → (u / 7 ≡ get_or order i 0 → ⊥) → Rests g w u v code → Rests g (set w (get_or order i 0) 0) u v code
-    others u v code q (inl e) = inl (get_or-set_other w (get_or order i 0) (u / 7) 0 0 q ∙ e)
+    others : (u v code : ℕ) → (u / 7 ≡ get_or order i 0 → ⊥) → Rests g w u v code → Rests g (set w (get_or order i 0) false) u v code
+    others u v code q (inl e) = inl (get_or-set_other w (get_or order i 0) (u / 7) false false q ∙ e)
     others u v code q (inr h) = inr h
 
     first : (v : ℕ) → Same g f g₁ f₁ v → Same g₀ f₀ g f v ⊎ E (from_of f v) v (link_of f v)
@@ -106,28 +107,28 @@ module _ {n : ℕ} {E : ℕ → ℕ → ℕ → Type 0} {order : List ℕ} {i : 
                 edges = λ v. second v (d.edges v);
               };
           idle_at = λ z j b e.
-              let c : get_or (set w (get_or order i 0) 0) (get_or order j 0) 0 ≡ 1 = subst (λ (l : List ℕ). get_or l (get_or order j 0) 0 ≡ 1) (d.still z) e in
+              let c : get_or (set w (get_or order i 0) false) (get_or order j 0) false ≡ true = subst (λ (l : List Bool). get_or l (get_or order j 0) false ≡ true) (d.still z) e in
               by_cases (ℕ_discrete (get_or order j 0) (get_or order i 0))
               (λ (o : get_or order j 0 ≡ get_or order i 0).
-              let y = get_or-set_same w (get_or order i 0) 0 0 (let t = a.live.size in omega arith) in
-              let c' : get_or (set w (get_or order i 0) 0) (get_or order i 0) 0 ≡ 1 = subst (λ (x : ℕ). get_or (set w (get_or order i 0) 0) x 0 ≡ 1) o c in
-              omega arith)
+              let y = get_or-set_same w (get_or order i 0) false false (let t = a.live.size in omega arith) in
+              let c' : get_or (set w (get_or order i 0) false) (get_or order i 0) false ≡ true = subst (λ (x : ℕ). get_or (set w (get_or order i 0) false) x false ≡ true) o c in
+              absurd (false≢true (sym y ∙ c')))
               (λ (o : get_or order j 0 ≡ get_or order i 0 → ⊥).
               by_cases (ℕ_discrete j i)
               (λ (m : j ≡ i). o (ap (λ (x : ℕ). get_or order x 0) m))
               (λ (m : j ≡ i → ⊥).
-              q.idle_at (d.begun z) j (omega arith) (sym (get_or-set_other w (get_or order i 0) (get_or order j 0) 0 0 o) ∙ c)));
+              q.idle_at (d.begun z) j (omega arith) (sym (get_or-set_other w (get_or order i 0) (get_or order j 0) false false o) ∙ c)));
         }
 
 -- What was left is known by equations.
 pub passed_is :
-    {n : ℕ} {E : ℕ → ℕ → ℕ → Type 0} {order : List ℕ} {i : ℕ} {g₀ g g₁ f₀ f f₁ : List (List ℕ)} {w w₁ : List ℕ} {r r₁ : Raised}
+    {n : ℕ} {E : ℕ → ℕ → ℕ → Type 0} {order : List ℕ} {i : ℕ} {g₀ g g₁ f₀ f f₁ : List (List ℕ)} {w w₁ : List Bool} {r r₁ : Raised}
     → g ≡ g₁ → f ≡ f₁ → w ≡ w₁ → r ≡ r₁ → Passed n E order i g₀ f₀ g₁ f₁ w₁ r₁ → Passed n E order i g₀ f₀ g f w r
 passed_is eg ef ew er d = rw (eg, ef, ew, er) d
 
 -- All shapes.
 pub swept_all :
-    {n : ℕ} {E : ℕ → ℕ → ℕ → Type 0} {order : List ℕ} {i m : ℕ} {g₀ g f₀ f : List (List ℕ)} {w : List ℕ} {r : Raised}
+    {n : ℕ} {E : ℕ → ℕ → ℕ → Type 0} {order : List ℕ} {i m : ℕ} {g₀ g f₀ f : List (List ℕ)} {w : List Bool} {r : Raised}
     → Passed n E order i g₀ f₀ g f w r → Ordered order m → m ≤ i → Swept n E m g₀ f₀ g f w r
 swept_all {w = w} q o b =
     let a = q.swept in
@@ -136,7 +137,7 @@ swept_all {w = w} q o b =
       rests = a.rests;
       clear = λ z x l e.
           let p = o.covers x l in
-          q.idle_at z p.place (let y = p.below in omega arith) (subst (λ (s : ℕ). get_or w s 0 ≡ 1) (sym p.is) e);
+          q.idle_at z p.place (let y = p.below in omega arith) (subst (λ (s : ℕ). get_or w s false ≡ true) (sym p.is) e);
       grown = a.grown;
       more = a.more;
       edges = a.edges;

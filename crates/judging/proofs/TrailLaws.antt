@@ -1,23 +1,19 @@
 -- The laws of written steps: ways and lines back, and steps put one after the other. Assumes nothing.
 use mathlib.Core.Path.{◌≡◌, refl, sym, subst, ap, ◌∙◌}
-use mathlib.Core.Bool.{Bool, true, false, cond}
 use mathlib.Core.List.{List, [], ◌∷◌, ◌++◌, append_assoc}
 use mathlib.Core.Logic.{◌⊎◌, inl, inr, ⊎_elim, by_cases}
 use Prim.Native.Nat.{ℕ, zero, suc, ◌+◌, ◌-◌, ◌*◌, ◌/◌, ◌%◌, ◌≤◌, ◌<◌}
 use native.Mathlib.Omega.{arith}
 use native.Mathlib.Numerals.{add-one}
-use native.Mathlib.Nat.{eq-or-lt_of_le}
 use native.Mathlib.Decide.{ℕ_discrete}
 use borrow.Author.Count.{below_more}
-use borrow.Author.Tests.{eq-eqb, ne_eqb}
-use lib.Dec.{eqb}
-use lib.ListN.{length, get_or, set, take, drop, length-append}
-use lib.Seq.{paste-zero, sets-eq, take_all, take-append-le, take-take, drop_at, take_at, drop-drop, length-take-le, length-paste}
+use lib.ListN.{length, take, drop, length-append}
+use lib.Seq.{paste-zero, take_all, take-append-le, take-take, drop_at, take_at, drop-drop, length-take-le, length-paste}
 use Rattle.chase.specs.Steps.{Step, step_numbers}
 use Rattle.chase.proofs.StepLaws.{length_numbers, numbers_append}
-use Rattle.judging.specs.Inner.Found.{ones_in, parent_at, maker_at, h_line_at}
-use Rattle.judging.specs.Inner.Nodes.{at, back, from_of, link_of, weight}
-use Rattle.judging.specs.Inner.Written.{link_step, line_to, made_of, way_back, way_to, Falls, WayLength, put_steps, one_step, StaysBelow, Deepest, InTurn, TurnLength, InLine, LineLength}
+use Rattle.judging.specs.Inner.Found.{parent_at, maker_at, h_line_at}
+use Rattle.judging.specs.Inner.Nodes.{at, back, from_of, link_of}
+use Rattle.judging.specs.Inner.Written.{link_step, line_to, made_of, way_back, way_to, Falls, WayLength, put_steps, one_step, StaysBelow, InTurn, TurnLength, InLine, LineLength}
 use Rattle.judging.specs.Inner.Trails.{WroteEndless, WroteSettled}
 use Rattle.judging.proofs.WalkLaws.{back_after}
 use Rattle.judging.proofs.Ways.{way_to-length}
@@ -95,16 +91,6 @@ module _ (d : List ℕ) (a b : ℕ) (ss ts : List Step) (e : b ≡ a + length ss
       ∙ over_after d (5 * a) (step_numbers ss) (step_numbers ts) room_is
       ∙ together
 
--- Five stores put a step.
-pub step_stored : (l : List ℕ) (a r h f t e : ℕ) → 5 * a + 5 ≤ length l
-    → set (set (set (set (set l (5 * a) r) (5 * a + 1) h) (5 * a + 2) f) (5 * a + 3) t) (5 * a + 4) e ≡ put_steps l a (one_step r h f t e)
-step_stored l a r h f t e room =
-    let p1 : 5 * a + 1 ≡ suc (5 * a) = omega arith in
-    let p2 : 5 * a + 2 ≡ suc (suc (5 * a)) = omega arith in
-    let p3 : 5 * a + 3 ≡ suc (suc (suc (5 * a))) = omega arith in
-    let p4 : 5 * a + 4 ≡ suc (suc (suc (suc (5 * a)))) = omega arith in
-    rw (p1, p2, p3, p4) (sets-eq (r ∷ h ∷ f ∷ t ∷ e ∷ []) l (5 * a) room)
-
 -- Walks back.
 
 pub length_line : (F K : ℕ → ℕ) (k x : ℕ) → length (line_to F K k x) ≡ k
@@ -142,9 +128,6 @@ module _ {ways : List (List ℕ)} {count s x k : ℕ} (f : Falls ways count) (c 
         made = below_more (λ j. 0 < parent_at ways (way_back ways j s)) k c.made (subst (λ y. 0 < parent_at ways y) c.is some);
       }
 
-  pub counted_way : parent_at ways x ≡ 0 → WayLength ways s k
-  counted_way z = let falls = c.falls in record { short = omega arith; row = subst (λ y. parent_at ways y ≡ 0) c.is z; made = c.made }
-
 -- The way's steps, put from the last one on.
 pub record PuttingWay (before : List ℕ) (ways : List (List ℕ)) (count s k : ℕ) (steps : List ℕ) (x left : ℕ) : Type 0 where
   pub below : x < count
@@ -154,16 +137,8 @@ pub record PuttingWay (before : List ℕ) (ways : List (List ℕ)) (count s k : 
   pub rest : put_steps steps 0 (way_to ways left x) ≡ put_steps before 0 (way_to ways k s)
   pub start : way_back ways left x ≡ way_back ways k s
 
-pub putting_way : (before : List ℕ) (ways : List (List ℕ)) (count s k : ℕ) → s < count → WayLength ways s k → 5 * k ≤ length before
-    → PuttingWay before ways count s k before s k
-putting_way before ways count s k h w room =
-    record { below = h; size = refl; room = room; made = w.made; rest = refl; start = refl }
-
 module _ {before : List ℕ} {ways : List (List ℕ)} {count s k : ℕ} {steps : List ℕ} {x left : ℕ} (f : Falls ways count)
     (p : PuttingWay before ways count s k steps x left) where
-  pub way_made : 0 < left → 0 < parent_at ways x
-  way_made h = p.made 0 h
-
   way_next_at : (a : ℕ) → left ≡ suc a → (after : List ℕ) → after ≡ put_steps steps a (one_step (maker_at ways x) (h_line_at ways x) 0 0 0)
       → PuttingWay before ways count s k after (parent_at ways x - 1) a
   way_next_at a e after put =
@@ -191,11 +166,6 @@ module _ {before : List ℕ} {ways : List (List ℕ)} {count s k : ℕ} {steps :
       → PuttingWay before ways count s k after (parent_at ways x - 1) (left - 1)
   way_next h = way_next_at (left - 1) (omega arith)
 
-  pub way_put : left ≤ 0 → (steps ≡ put_steps before 0 (way_to ways k s)) × (x ≡ way_back ways k s)
-  way_put h =
-      let z : left ≡ 0 = omega arith in
-      (sym (put-none steps 0) ∙ ap (λ n. put_steps steps 0 (way_to ways n x)) (sym z) ∙ p.rest, ap (λ n. way_back ways n x) (sym z) ∙ p.start)
-
 -- The links of a line, put from the last one on.
 pub record PuttingLine (before : List ℕ) (first k : ℕ) (from link : ℕ → ℕ) (x : ℕ) (steps : List ℕ) (y left : ℕ) : Type 0 where
   pub stays : StaysBelow from left y
@@ -203,15 +173,8 @@ pub record PuttingLine (before : List ℕ) (first k : ℕ) (from link : ℕ → 
   pub room : 5 * (first + left) ≤ length steps
   pub rest : put_steps steps first (line_to from link left y) ≡ put_steps before first (line_to from link k x)
 
-pub putting_line : (before : List ℕ) (first k : ℕ) (from link : ℕ → ℕ) (x : ℕ) → StaysBelow from k x → 5 * (first + k) ≤ length before
-    → PuttingLine before first k from link x before x k
-putting_line before first k from link x h room = record { stays = h; size = refl; room = room; rest = refl }
-
 module _ {before : List ℕ} {first k : ℕ} {from link : ℕ → ℕ} {x : ℕ} {steps : List ℕ} {y left : ℕ}
     (p : PuttingLine before first k from link x steps y left) where
-  pub line_node : y < 3584
-  line_node = p.stays 0 (omega arith)
-
   line_next_at : (a : ℕ) → left ≡ suc a → (u code : ℕ) → u ≡ from y → code ≡ link y → (after : List ℕ)
       → after ≡ put_steps steps (first + a) (one_step (code / 8 + 1) (code / 2 % 4 + 1) (u % 7) (y % 7) (code % 2))
       → PuttingLine before first k from link x after u a
@@ -256,25 +219,8 @@ pub turning : {from : ℕ → ℕ} {y : ℕ} (z : ℕ) → z ≡ from y → Turn
 turning z e = record { some = omega arith; is = e; first = λ j p l. absurd (omega arith) }
 
 module _ {from : ℕ → ℕ} {n y : ℕ} (turn : InTurn from n y) {z k : ℕ} (t : Turning from y z k) where
-  pub turn_node : z < n
-  turn_node = rw t.is (turn.nodes k)
-
   turn_few : k ≤ turn.period
   turn_few = ⊎_elim (λ h. h) (λ (h : turn.period < k). absurd (t.first turn.period turn.some h turn.closes)) (le-or-lt k turn.period)
-
-  pub turn_left : (z ≡ y → ⊥) → k < n
-  turn_left d =
-      let few = turn.few in
-      ⊎_elim (λ (e : k ≡ turn.period). absurd (d (t.is ∙ ap (λ m. back from m y) e ∙ turn.closes))) (λ (l : k < turn.period). omega arith)
-      (eq-or-lt_of_le turn_few)
-
-  pub turning_next : (z ≡ y → ⊥) → (u : ℕ) → u ≡ from z → Turning from y u (k + 1)
-  turning_next d u e =
-      record {
-        some = omega arith;
-        is = e ∙ ap from t.is ∙ ap (λ m. back from m y) (sym (add-one k));
-        first = λ j p l b. below_more (λ i. 0 < i → back from i y ≡ y → ⊥) k (λ i m q. t.first i q m) (λ q c. d (t.is ∙ c)) j l p b;
-      }
 
   pub turned : z ≡ y → TurnLength from n y k
   turned e = let few = turn_few in let all = turn.few in record { some = t.some; few = omega arith; closes = sym t.is ∙ e; first = t.first }
@@ -288,38 +234,12 @@ pub record Lining (generations : List (List ℕ)) (from : ℕ → ℕ) (x y k : 
   pub is : y ≡ back from k x
   pub high : (j : ℕ) → j < k → 0 < at generations (back from j x)
 
-pub lining : (generations : List (List ℕ)) (from : ℕ → ℕ) (x : ℕ) → Lining generations from x x 0
-lining generations from x = record { is = refl; high = λ j l. absurd (omega arith) }
-
 module _ {generations : List (List ℕ)} {from : ℕ → ℕ} {n x : ℕ} (line : InLine generations from n x) where
   -- Generation 0 is met after at most the line's steps.
   line_few : {k : ℕ} → ((j : ℕ) → j < k → 0 < at generations (back from j x)) → k ≤ line.steps
   line_few {k} high =
       let ends = line.ends in
       ⊎_elim (λ h. h) (λ (h : line.steps < k). let p = high line.steps h in absurd (omega arith)) (le-or-lt k line.steps)
-
-  module _ {y k : ℕ} (t : Lining generations from x y k) where
-    pub lining_node : y < n
-    lining_node = rw t.is (line.nodes k (line_few t.high))
-
-    pub lining_left : (at generations y ≡ 0 → ⊥) → k < line.steps
-    lining_left d =
-        ⊎_elim (λ (e : k ≡ line.steps). absurd (d (ap (at generations) (t.is ∙ ap (λ m. back from m x) e) ∙ line.ends))) (λ l. l)
-        (eq-or-lt_of_le (line_few t.high))
-
-    pub lining_next : (at generations y ≡ 0 → ⊥) → (u : ℕ) → u ≡ from y → Lining generations from x u (k + 1)
-    lining_next d u e =
-        let some : 0 < at generations y = omega arith in
-        record {
-          is = e ∙ ap from t.is ∙ ap (λ m. back from m x) (sym (add-one k));
-          high = below_more (λ j. 0 < at generations (back from j x)) k t.high (subst (λ v. 0 < at generations v) t.is some);
-        }
-
-    pub lined : at generations y ≡ 0 → LineLength generations from n x k
-    lined z =
-        let few = line_few t.high in
-        let all = line.few in
-        record { few = omega arith; ends = sym (ap (at generations) t.is) ∙ z; high = t.high }
 
   module _ {k : ℕ} (size : LineLength generations from n x k) where
     pub line_nodes : (j : ℕ) → j ≤ k → back from j x < n
@@ -340,65 +260,15 @@ module _ {from : ℕ → ℕ} {k x y left : ℕ} (s : Starting from k x y left) 
   pub start_node : y < 3584
   start_node = s.stays 0 (omega arith)
 
-  start_next_at : (a : ℕ) → left ≡ suc a → (u : ℕ) → u ≡ from y → Starting from k x u a
-  start_next_at a e u ue =
+  pub start_next : (a : ℕ) → left ≡ suc a → (u : ℕ) → u ≡ from y → Starting from k x u a
+  start_next a e u ue =
       record {
         stays = λ j l. subst (λ n. n < 3584) (sym (ap (back from j) ue ∙ back_after from j y)) (s.stays (suc j) (omega arith));
         rest = ap (back from a) ue ∙ back_after from a y ∙ ap (λ n. back from n y) (sym e) ∙ s.rest;
       }
 
-  pub start_next : 0 < left → (u : ℕ) → u ≡ from y → Starting from k x u (left - 1)
-  start_next h = start_next_at (left - 1) (omega arith)
-
   pub started : left ≤ 0 → y ≡ back from k x
   started h = let z : left ≡ 0 = omega arith in ap (λ n. back from n y) (sym z) ∙ s.rest
-
--- The largest generation.
-
-module _ {generations : List (List ℕ)} {link : ℕ → ℕ} {v best : ℕ} (d : Deepest generations link v best) where
-  pub deepest_node : best ≤ v
-  deepest_node =
-      by_cases (ℕ_discrete v 0) (λ (e : v ≡ 0). let z = d.none e in omega arith) (λ (e : v ≡ 0 → ⊥). let l = d.below (omega arith) in omega arith)
-
-  pub deepest_raised : weight (link v) ≡ 1 → at generations best < at generations v → Deepest generations link (v + 1) v
-  deepest_raised fresh h =
-      record {
-        below = λ p. omega arith;
-        none = λ e. absurd (omega arith);
-        made = λ p. fresh;
-        largest =
-            below_more (λ u. weight (link u) ≡ 1 → at generations u ≤ at generations v) v (λ u l w. let m = d.largest u l w in omega arith) (λ w. omega arith);
-      }
-
-  pub deepest_same : (weight (link v) ≡ 1 → at generations v ≤ at generations best) → Deepest generations link (v + 1) best
-  deepest_same h =
-      record {
-        below = λ p. omega (arith, deepest_node);
-        none = λ e. absurd (omega arith);
-        made = d.made;
-        largest = below_more (λ u. weight (link u) ≡ 1 → at generations u ≤ at generations best) v d.largest h;
-      }
-
--- Marks counted.
-
-ones_suc : (n : ℕ) (marks : List ℕ) → n < length marks → ones_in (suc n) marks ≡ cond (eqb (get_or marks n 0) 1) (suc (ones_in n marks)) (ones_in n marks)
-ones_suc n [] h = absurd (omega arith)
-ones_suc zero (m ∷ ms) h = refl
-ones_suc (suc n) (m ∷ ms) h = go (eqb m 1) (eqb (get_or ms n 0) 1) (ones_suc n ms (omega arith))
-  where
-    go : (t u : Bool) → ones_in (suc n) ms ≡ cond u (suc (ones_in n ms)) (ones_in n ms)
-        → cond t (suc (ones_in (suc n) ms)) (ones_in (suc n) ms)
-        ≡ cond u (suc (cond t (suc (ones_in n ms)) (ones_in n ms))) (cond t (suc (ones_in n ms)) (ones_in n ms))
-    go true true e = ap suc e
-    go true false e = ap suc e
-    go false true e = e
-    go false false e = e
-
-pub ones_more : (n : ℕ) (marks : List ℕ) → n < length marks → get_or marks n 0 ≡ 1 → ones_in (n + 1) marks ≡ ones_in n marks + 1
-ones_more n marks h e = rw (add-one n, ones_suc n marks h, eq-eqb (get_or marks n 0) 1 e) (omega arith)
-
-pub ones_same : (n : ℕ) (marks : List ℕ) → n < length marks → (get_or marks n 0 ≡ 1 → ⊥) → ones_in (n + 1) marks ≡ ones_in n marks
-ones_same n marks h e = rw (add-one n, ones_suc n marks h, ne_eqb (get_or marks n 0) 1 e) refl
 
 -- A way and a line, put one after the other.
 

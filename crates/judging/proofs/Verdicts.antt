@@ -1,10 +1,11 @@
 -- The verdicts are right: what the code finds, and the steps that it writes, meet the contract of Judge. Assumes nothing.
 use mathlib.Core.Path.{◌≡◌, refl, sym, ◌∙◌, ap, subst₂}
 use mathlib.Core.Logic.{◌⊎◌, inl, inr}
+use mathlib.Core.Bool.{Bool}
 use mathlib.Core.List.{List, [], ◌++◌, append-nil}
 use Prim.Native.Nat.{ℕ, suc, ◌+◌, ◌*◌, ◌/◌, ◌≤◌, ◌<◌}
 use native.Mathlib.Omega.{arith}
-use lib.ListN.{length, get_or, take, drop, length-append}
+use lib.ListN.{length, take, drop, length-append}
 use lib.Seq.{take_all, take_at, drop_at, drop-drop, drop-append-add}
 use Rattle.patterns.specs.Outcome.{good}
 use Rattle.sheet.specs.Line.{Line as SheetLine}
@@ -21,7 +22,7 @@ use Rattle.chase.proofs.BoundLaws.{rows_of_tables}
 use Rattle.chase.proofs.StepLaws.{length_numbers, numbers_append}
 use Rattle.chase.proofs.CertificateLaws.{settled_certificate, settled_at_once, endless_certificate}
 use Rattle.rules.specs.Table.{lines_in, SheetHeld}
-use Rattle.judging.specs.Inner.Found.{ones_in, maker_at}
+use Rattle.judging.specs.Inner.Found.{fired_in, maker_at}
 use Rattle.judging.specs.Inner.Nodes.{at, back}
 use Rattle.judging.specs.Inner.Written.{line_to, way_back, way_to, WayLength, put_steps, Deepest, TurnLength, LineLength}
 use Rattle.judging.specs.Inner.Facts.{Facts}
@@ -64,10 +65,10 @@ pub too_many : (lines : List SheetLine) (numbers before : List ℕ) → sheet_he
 too_many lines numbers before sheet room m = (many lines room sheet (over (rules_of lines) (rows_of lines) 512 m), refl)
 
 -- The facts of a sheet, and the figures that every verdict has.
-module _ (lines : List SheetLine) (codes index : List ℕ) (ways : List (List ℕ)) (fired : List ℕ) (count : ℕ) (generations : List (List ℕ)) (from link : ℕ → ℕ) (turning : ℕ)
+module _ (lines : List SheetLine) (codes index : List ℕ) (ways : List (List ℕ)) (fired : List Bool) (count : ℕ) (generations : List (List ℕ)) (from link : ℕ → ℕ) (turning : ℕ)
     (f : Facts lines codes index ways fired count generations from link turning)
     (numbers before now : List ℕ) (sheet : sheet_held numbers ≡ good lines) (room : 20480 ≤ length before)
-    (v : Verdict) (shapes-is : v.shapes ≡ count) (fired_is : v.fired ≡ ones_in (length (rules_of lines)) fired)
+    (v : Verdict) (shapes-is : v.shapes ≡ count) (fired_is : v.fired ≡ fired_in (length (rules_of lines)) fired)
     (share_is : v.share ≡ share v.fired (length (rules_of lines))) where
   abbrev rules : List Rule
   rules = rules_of lines

@@ -1,5 +1,5 @@
 -- Walks back from node to node: how many links they are, and one law for each event of a walk. Assumes nothing.
-use mathlib.Core.Path.{◌≡◌, refl, subst, ap, ◌∙◌}
+use mathlib.Core.Path.{◌≡◌, refl, ap, ◌∙◌}
 use mathlib.Core.List.{List}
 use Prim.Native.Nat.{ℕ, zero, suc, ◌+◌, ◌≤◌, ◌<◌}
 use native.Mathlib.Omega.{arith}
@@ -41,16 +41,4 @@ module _ {n : ℕ} {g : List (List ℕ)} {from : ℕ → ℕ} {x y k : ℕ} (i :
       record {
         short = λ _. (k, l, o.long, rw (← o.here) z);
         long = λ p. let y : ⊥ = omega arith in absurd y;
-      }
-
-  pub unmet : n ≤ k → Walked n g from x (y + 1)
-  unmet l =
-      let f = o.few in
-      let q : k ≡ n = omega arith in
-      record {
-        short = λ p. let y : ⊥ = omega arith in absurd y;
-        long = λ _. (
-          ap (λ (v : ℕ). v + 1) (o.here ∙ ap (λ (k : ℕ). back from k x) q),
-          subst (λ (k : ℕ). Long (at g) from k x) q o.long,
-        );
       }

@@ -1,55 +1,65 @@
 // The answer: its counts, and the steps of the trail and the loop written into the lent steps.
 ghost use Rattle.std.specs.Prelude.{◌≡◌, ◌+◌, ◌*◌, ◌≤◌, ◌<◌, length};
-ghost use Rattle.judging.specs.Inner.Found.{ones_in};
+ghost use Rattle.judging.specs.Inner.Found.{fired_in};
 ghost use Rattle.judging.specs.Inner.Nodes.{Grid, from_of};
 ghost use Rattle.judging.specs.Inner.Written.{InTurn, InLine};
 ghost use Rattle.judging.specs.Inner.Trails.{Lent, WroteEndless, WroteSettled};
-ghost use Rattle.judging.specs.Inner.Judged.{CountsOnly, Counted, SaysEndless, Lines, SaysSettled};
+ghost use Rattle.judging.specs.Inner.Judged.{Counted, FiguresOf, SaysEndless, Lines, SaysSettled};
 
 use crate::grid::{Numbers, Raises, number};
-use crate::search::{Found, Way};
-use crate::{Figures, JudgeAnswer, trail};
+use crate::search::Way;
+use crate::{Figures, Verdict, trail};
 use arithmetic::share;
 
-// Row, trail and loop of an answer; the steps are written.
-#[derive(Drop)]
+// The counts of what the search found.
+#[derive(Clone, Copy)]
+pub(crate) struct Counts {
+    pub shapes: usize,
+    pub fired: usize,
+    pub share: usize,
+}
+
+// Row, trail and loop of a verdict; the steps are written.
+#[derive(Clone, Copy)]
 struct Path {
     pub row: usize,
     pub trail: usize,
     pub turns: usize,
 }
 
-// How many rules fired, each with a 1.
-fn fired_count(fired: &[u8; 256], rules: usize) -> usize
+// How many of the rules fired.
+fn fired_count(fired: &[bool; 256], rules: usize) -> usize
     requires { (length fired.now ≡ 256) × (rules ≤ 256) }
-    ensures { result ≡ ones_in rules fired.now }
+    ensures { result ≡ fired_in rules fired.now }
 {
-    let mut count: usize = 0;
-    let mut r: usize = 0;
-    while r < rules {
-        if fired[r] == 1 {
-            count += 1;
-        }
-        r += 1;
-    }
-    count
+    fired[..rules].iter().filter(|&&x| x).count()
 }
 
-// The figures that are counts: shapes, fired rules and the share; the others are 0.
-pub(crate) fn counts(found: Found, rules: usize) -> Figures
-    requires { (length found.fired ≡ 256) × (rules ≤ 256) }
-    ensures { CountsOnly result × Counted found rules result }
+// Shapes, fired rules and their share.
+pub(crate) fn counts_of(marks: &[bool; 256], shapes: usize, rules: usize) -> Counts
+    requires { (length marks.now ≡ 256) × (rules ≤ 256) }
+    ensures { Counted marks.now shapes rules result }
 {
-    let by_rule = found.fired;
-    let fired = fired_count(&by_rule, rules);
-    Figures {
-        deepest: 0,
-        shapes: found.count,
+    let fired = fired_count(marks, rules);
+    Counts {
+        shapes,
         fired,
         share: share(fired as u32, rules as u32),
-        row: 0,
-        trail: 0,
-        turns: 0,
+    }
+}
+
+// The figures of a verdict.
+fn figures(counts: Counts, deepest: usize, path: Path) -> Figures
+    ensures { FiguresOf counts deepest path.row path.trail path.turns result }
+{
+    Figures {
+        deepest,
+        shapes: counts.shapes,
+        fired: counts.fired,
+        share: counts.share,
+        row: path.row,
+        trail: path.trail,
+        turns: path.turns,
     }
 }
 
@@ -102,47 +112,44 @@ fn write_settled(
     }
 }
 
-// The answer for a sheet that is endless, by the loop at node y: the counts, with row, trail and loop. The steps are written.
-pub(crate) fn endless_answer(
+// The verdict on a sheet that is endless, by the loop at node y: the counts, with row, trail and loop. The steps are written.
+pub(crate) fn endless_verdict(
     steps: &mut [u16],
     ways: &[Way; 512],
     raises: &Raises,
     y: usize,
-    counts: Figures,
-) -> JudgeAnswer
-    requires { Lent steps.old ways.now counts.shapes × CountsOnly counts × (y < 7 * counts.shapes) × InTurn (from_of raises.now) (7 * counts.shapes) y }
+    counts: Counts,
+) -> Verdict
+    requires { Lent steps.old ways.now counts.shapes × (y < 7 * counts.shapes) × InTurn (from_of raises.now) (7 * counts.shapes) y }
     ensures { SaysEndless ways.now raises.now counts.shapes y counts steps.old result steps.new }
 {
     let path = write_endless(steps, ways, raises, counts.shapes, y);
-    let mut figures = counts;
-    figures.row = path.row;
-    figures.trail = path.trail;
-    figures.turns = path.turns;
-    JudgeAnswer::Endless(figures)
+    Verdict::Endless(figures(counts, 0, path))
 }
 
-// The answer for a sheet that settles: the counts, with the deepest generation. Where that is above 0, row and trail too, and the steps that make a number of it are written.
-pub(crate) fn settled_answer(
+// The verdict on a sheet that settles: the counts, with the deepest generation. Where that is above 0, row and trail too, and the steps that make a number of it are written.
+pub(crate) fn settled_verdict(
     steps: &mut [u16],
     ways: &[Way; 512],
     generations: &Numbers,
     raises: &Raises,
-    counts: Figures,
-) -> JudgeAnswer
-    requires { Lent steps.old ways.now counts.shapes × CountsOnly counts × Grid generations.now
+    counts: Counts,
+) -> Verdict
+    requires { Lent steps.old ways.now counts.shapes × Grid generations.now
         × Lines generations.now (from_of raises.now) counts.shapes }
     ensures { SaysSettled ways.now generations.now raises.now counts.shapes counts steps.old result steps.new }
 {
     let count = counts.shapes;
     let x = trail::deepest(7 * count, generations, raises);
     let deepest = number(generations, x) as usize;
-    if deepest == 0 {
-        return JudgeAnswer::Settles(counts);
-    }
-    let path = write_settled(steps, ways, generations, raises, count, x);
-    let mut figures = counts;
-    figures.deepest = deepest;
-    figures.row = path.row;
-    figures.trail = path.trail;
-    JudgeAnswer::Settles(figures)
+    let path = if deepest == 0 {
+        Path {
+            row: 0,
+            trail: 0,
+            turns: 0,
+        }
+    } else {
+        write_settled(steps, ways, generations, raises, count, x)
+    };
+    Verdict::Settles(figures(counts, deepest, path))
 }

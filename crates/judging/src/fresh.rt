@@ -14,13 +14,11 @@ fn head_fresh(table: &[u8; 16384], r: usize, h: usize) -> bool
     ensures { Decides (HeadFresh (row_bytes table.now r) h) result }
 {
     let width = rule_byte(table, r, 33 + 8 * h);
-    let mut j: usize = 0;
-    while j < width {
+    for j in 0..width {
         let mark = rule_byte(table, r, 34 + 8 * h + j);
         if rule_byte(table, r, 8 + mark) == 0 {
             return true;
         }
-        j += 1;
     }
     false
 }
@@ -31,50 +29,45 @@ fn rule_fresh(table: &[u8; 16384], r: usize) -> bool
     ensures { Decides (RuleFresh (row_bytes table.now r)) result }
 {
     let heads = rule_byte(table, r, 28);
-    let mut h: usize = 0;
-    while h < heads {
+    // A for: with `any` the proof didn't close, at the goals any-requires-clause-callable and returns.
+    for h in 0..heads {
         if head_fresh(table, r, h) {
             return true;
         }
-        h += 1;
     }
     false
 }
 
-// 1 at each kind that has a rule with a fresh mark.
-fn fresh_kinds(table: &[u8; 16384], rules: usize) -> [u8; 65]
+// Of each kind, whether it has a rule with a fresh mark.
+fn fresh_kinds(table: &[u8; 16384], rules: usize) -> [bool; 65]
     requires { TableFits table.now rules }
     ensures { FreshKinds table.now rules result }
 {
-    let mut kinds = [0u8; 65];
-    let mut r: usize = 0;
-    while r < rules {
+    let mut kinds = [false; 65];
+    for r in 0..rules {
         if rule_fresh(table, r) {
             let kind = rule_byte(table, r, 0);
-            kinds[kind] = 1;
+            kinds[kind] = true;
         }
-        r += 1;
     }
     kinds
 }
 
-// 1 for each of the first `count` shapes whose kind has a rule with a fresh mark.
+// Of each of the first `count` shapes, whether its kind has a rule with a fresh mark.
 pub(crate) fn first_waiting(
     table: &[u8; 16384],
     rules: usize,
     shapes: &[u32; 512],
     count: usize,
-) -> [u8; 512]
+) -> [bool; 512]
     requires { TableFits table.now rules × (length shapes.now ≡ 512) × (count ≤ 512) × ((s : ℕ) → s < count → get_or shapes.now s 0 < 17792) }
     ensures { FirstWaiting table.now rules shapes.now count result }
 {
     let kinds = fresh_kinds(table, rules);
-    let mut waiting = [0u8; 512];
-    let mut s: usize = 0;
-    while s < count {
-        let kind = shapes[s] as usize / 278 + 1;
+    let mut waiting = [false; 512];
+    for (s, &shape) in shapes[..count].iter().enumerate() {
+        let kind = shape as usize / 278 + 1;
         waiting[s] = kinds[kind];
-        s += 1;
     }
     waiting
 }

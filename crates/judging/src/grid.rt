@@ -26,9 +26,7 @@ pub(crate) fn number(g: &Numbers, v: usize) -> u16
     requires { Grid g.now × (v < 3584) }
     ensures { result ≡ at g.now v }
 {
-    let s = v / 7;
-    let i = v % 7;
-    g[s][i]
+    g[v / 7][v % 7]
 }
 
 // The node that node v was raised from.

@@ -11,19 +11,19 @@ mod search;
 mod shape;
 mod spread;
 mod trail;
-mod wide;
 
 ghost use Rattle.std.specs.Prelude.{◌≡◌, ◌≤◌, length};
 ghost use Rattle.chase.specs.Judge.{JudgeMeets, shape_limit};
-ghost use Rattle.judging.specs.Answer.{judge_says, judge_refusal_number, judge_refusal_line};
+ghost use Rattle.judging.specs.Answer.{judge_says, judge_refusal_number, judge_refusal_line, judge_refusal_of};
 ghost use Rattle.rules.specs.Table.{SheetHeld, rules_in, table_rules, TableFits};
 
 use notes::Note;
-use rules::RulesAnswer;
-use spread::Turning;
+use rules::RulesRefusal;
+use sheet::RefusalNumbers;
+use spread::Basis;
 
 // Why judging is refused.
-#[derive(Drop)]
+#[derive(Clone, Copy)]
 pub enum JudgeRefusal {
     // Fewer than 4,096 steps are lent.
     StepsShort,
@@ -33,15 +33,20 @@ pub enum JudgeRefusal {
     ShapesOver,
 }
 
-// A refusal in document 01's numbers; line 0 where none is named.
-#[derive(Drop)]
-pub struct JudgeRefusalNumbers {
-    pub number: usize,
-    pub line: usize,
+// A refusal of the rules as one of judging. The table has room, so the other is never given.
+impl From<RulesRefusal> for JudgeRefusal {
+    ghost from_gives = { λ r j. j ≡ judge_refusal_of r };
+
+    fn from(refusal: RulesRefusal) -> JudgeRefusal {
+        match refusal {
+            RulesRefusal::LineWrong(line) => JudgeRefusal::LineWrong(line),
+            RulesRefusal::TableShort => JudgeRefusal::StepsShort,
+        }
+    }
 }
 
 // What is said of a sheet beside the verdict: row, trail and loop are counts as document 01 has them.
-#[derive(Drop)]
+#[derive(Clone, Copy)]
 pub struct Figures {
     pub deepest: usize,
     pub shapes: usize,
@@ -52,81 +57,71 @@ pub struct Figures {
     pub turns: usize,
 }
 
-#[derive(Drop)]
-pub enum JudgeAnswer {
+// Whether the follow-ups of a sheet come to rest.
+#[derive(Clone, Copy)]
+pub enum Verdict {
     Settles(Figures),
     Endless(Figures),
-    Refused(JudgeRefusal),
 }
 
 // Judges lent lines, eight numbers each. At least 4,096 steps, five numbers each, are lent for the trail and the loop. A good call changes the steps that it counts and nothing else; a refusal changes nothing.
-pub fn judge(lines: &[u32], steps: &mut [u16]) -> JudgeAnswer
+pub fn judge(lines: &[u32], steps: &mut [u16]) -> Result<Verdict, JudgeRefusal>
     ensures { JudgeMeets shape_limit lines.now steps.old (judge_says result) steps.new }
 {
     if steps.len() < 20480 {
-        return JudgeAnswer::Refused(JudgeRefusal::StepsShort);
+        return Err(JudgeRefusal::StepsShort);
     }
     let mut table = [0u8; 16384];
-    match rules::rules_of(lines, &mut table) {
-        RulesAnswer::Rules(count) => judge_sheet(lines, steps, &table, count),
-        RulesAnswer::LineWrong(line) => JudgeAnswer::Refused(JudgeRefusal::LineWrong(line)),
-        RulesAnswer::TableShort => JudgeAnswer::Refused(JudgeRefusal::StepsShort),
-    }
+    let count = rules::rules_of(lines, &mut table)?;
+    judge_sheet(lines, steps, &table, count)
 }
 
-// The number and the line of a refusal.
-pub fn refusal_numbers(refusal: JudgeRefusal) -> JudgeRefusalNumbers
+// The number and the line of a refusal in document 01; line 0 where none is named.
+pub fn refusal_numbers(refusal: JudgeRefusal) -> RefusalNumbers
     ensures { (result.number ≡ judge_refusal_number refusal) × (result.line ≡ judge_refusal_line refusal) }
 {
     match refusal {
-        JudgeRefusal::StepsShort => JudgeRefusalNumbers {
+        JudgeRefusal::StepsShort => RefusalNumbers {
             number: 12,
             line: 0,
         },
-        JudgeRefusal::LineWrong(line) => JudgeRefusalNumbers { number: 8, line },
-        JudgeRefusal::ShapesOver => JudgeRefusalNumbers {
+        JudgeRefusal::LineWrong(line) => RefusalNumbers { number: 8, line },
+        JudgeRefusal::ShapesOver => RefusalNumbers {
             number: 11,
             line: 0,
         },
     }
 }
 
-// Judges lent lines that are a sheet, by the table of their rules.
-fn judge_sheet(lines: &[u32], steps: &mut [u16], table: &[u8; 16384], rules: usize) -> JudgeAnswer
+// Judges lent lines that are a sheet, by the table of their rules. Up to 256 lines have room for 2,048 notes: to clear less for a small sheet.
+fn judge_sheet(
+    lines: &[u32],
+    steps: &mut [u16],
+    table: &[u8; 16384],
+    rules: usize,
+) -> Result<Verdict, JudgeRefusal>
     requires { SheetHeld lines.now × (20480 ≤ length steps.old) × TableFits table.now rules × (table_rules table.now rules ≡ rules_in lines.now) }
     ensures { JudgeMeets shape_limit lines.now steps.old (judge_says result) steps.new }
 {
     if lines.len() > 2048 {
-        return judge_many_lines(lines, steps, table, rules);
+        judge_noted::<8192>(lines, steps, table, rules)
+    } else {
+        judge_noted::<2048>(lines, steps, table, rules)
     }
-    judge_few_lines(lines, steps, table, rules)
 }
 
-// Judges a sheet of up to 256 lines, with room for 2,048 notes: to clear less for a small sheet.
-fn judge_few_lines(
+// Judges a sheet with room for so many notes.
+fn judge_noted<const ROOM: usize>(
     lines: &[u32],
     steps: &mut [u16],
     table: &[u8; 16384],
     rules: usize,
-) -> JudgeAnswer
-    requires { SheetHeld lines.now × (20480 ≤ length steps.old) × TableFits table.now rules × (table_rules table.now rules ≡ rules_in lines.now) }
+) -> Result<Verdict, JudgeRefusal>
+    requires { SheetHeld lines.now × (20480 ≤ length steps.old) × TableFits table.now rules × (table_rules table.now rules ≡ rules_in lines.now)
+        × (ROOM ≤ 8192) }
     ensures { JudgeMeets shape_limit lines.now steps.old (judge_says result) steps.new }
 {
-    let mut notes = [[0u16; 2]; 2048];
-    judge_rules(lines, steps, table, rules, &mut notes)
-}
-
-// Judges a sheet of any number of lines, with room for 8,192 notes.
-fn judge_many_lines(
-    lines: &[u32],
-    steps: &mut [u16],
-    table: &[u8; 16384],
-    rules: usize,
-) -> JudgeAnswer
-    requires { SheetHeld lines.now × (20480 ≤ length steps.old) × TableFits table.now rules × (table_rules table.now rules ≡ rules_in lines.now) }
-    ensures { JudgeMeets shape_limit lines.now steps.old (judge_says result) steps.new }
-{
-    let mut notes = [[0u16; 2]; 8192];
+    let mut notes = [[0u16; 2]; ROOM];
     judge_rules(lines, steps, table, rules, &mut notes)
 }
 
@@ -137,17 +132,21 @@ fn judge_rules(
     table: &[u8; 16384],
     rules: usize,
     notes: &mut [Note],
-) -> JudgeAnswer
+) -> Result<Verdict, JudgeRefusal>
     requires { SheetHeld lines.now × (20480 ≤ length steps.old) × TableFits table.now rules × (table_rules table.now rules ≡ rules_in lines.now)
         × (length notes.old ≤ 8192) }
     ensures { JudgeMeets shape_limit lines.now steps.old (judge_says result) steps.new }
 {
-    let kinds = kinds::by_kind(table, rules);
-    let mut shapes = [0u32; 512];
+    // No heap: what is found stands in arrays of this call, and a place is a number. What is cleared stands first: the compiler then clears each array once.
     let mut index = search::no_index();
+    let mut shapes = [0u32; 512];
     let mut ways = [[0u16; 3]; 512];
     let mut starts = [0u32; 513];
-    let found = search::search(
+    let mut fired = [false; 256];
+    let mut generations = grid::no_numbers();
+    let mut raises = grid::no_raises();
+    let kinds = kinds::by_kind(table, rules);
+    let Some(count) = search::search(
         lines,
         table,
         rules,
@@ -157,27 +156,24 @@ fn judge_rules(
         &mut ways,
         notes,
         &mut starts,
-    );
-    if found.full {
-        return JudgeAnswer::Refused(JudgeRefusal::ShapesOver);
-    }
-    let counts = answer::counts(found, rules);
-    let mut generations = grid::no_numbers();
-    let mut raises = grid::no_raises();
-    let turning = spread::spread(
+        &mut fired,
+    ) else {
+        return Err(JudgeRefusal::ShapesOver);
+    };
+    let counts = answer::counts_of(&fired, count, rules);
+    let basis = Basis {
         table,
         rules,
-        &kinds,
-        &shapes,
-        &index,
+        kinds: &kinds,
+        shapes: &shapes,
+        index: &index,
         notes,
-        &starts,
-        counts.shapes,
-        &mut generations,
-        &mut raises,
-    );
+        starts: &starts,
+        count: counts.shapes,
+    };
+    let turning = spread::spread(&basis, &mut generations, &mut raises);
     match turning {
-        Turning::Nowhere => answer::settled_answer(steps, &ways, &generations, &raises, counts),
-        Turning::At(y) => answer::endless_answer(steps, &ways, &raises, y, counts),
+        None => Ok(answer::settled_verdict(steps, &ways, &generations, &raises, counts)),
+        Some(y) => Ok(answer::endless_verdict(steps, &ways, &raises, y, counts)),
     }
 }

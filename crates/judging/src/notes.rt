@@ -38,17 +38,16 @@ pub(crate) fn note_shape(
     let kind = shape / 278 + 1;
     let digits = sheet::digits(shape % 278 + 1);
     let mut k: usize = 0;
-    let mut r = next_fire(table, rules, kinds, kind, kind, digits);
-    while r < rules {
+    let mut next = next_fire(table, rules, kinds, kind, kind, digits);
+    // This walks the chain of the rules that fire.
+    while let Some(r) = next {
         let heads = rule_byte(table, r, 28);
-        let mut h: usize = 0;
-        while h < heads {
+        for h in 0..heads {
             let code = made(table, rules, r, h, digits);
             note(notes, k, 8 * r + 2 * h, index[code]);
             k += 1;
-            h += 1;
         }
-        r = next_fire(table, rules, kinds, 65 + r, kind, digits);
+        next = next_fire(table, rules, kinds, 65 + r, kind, digits);
     }
     k
 }

@@ -1,10 +1,10 @@
 // The search for the shapes that the rules reach from the rows.
-ghost use Rattle.std.specs.Prelude.{false, ◌≡◌, [], ◌∷◌, ◌+◌, ◌*◌, ◌≤◌, ◌<◌, length, get_or, set};
+ghost use Rattle.std.specs.Prelude.{◌≡◌, [], ◌∷◌, ◌+◌, ◌*◌, ◌≤◌, ◌<◌, length, get_or, set, IfSome};
 ghost use Rattle.patterns.specs.Pattern.{numbers_pattern};
 ghost use Rattle.rules.specs.Table.{SheetHeld, rules_in, rows_in, table_rules, KindFits, TableFits};
 ghost use Rattle.judging.specs.Inner.Codes.{CodeIs};
 ghost use Rattle.judging.specs.Inner.Firing.{ByKind};
-ghost use Rattle.judging.specs.Inner.Found.{Searched};
+ghost use Rattle.judging.specs.Inner.Found.{NoneFired, Searched};
 ghost use Rattle.judging.specs.Inner.Noted.{Noted};
 ghost use Rattle.rules.specs.Inner.Bytes.{Clear};
 ghost use Rattle.rules.specs.Inner.Rows.{row_numbers, RowAt};
@@ -14,26 +14,8 @@ use crate::notes::{Note, note};
 use crate::shape::{made, next_fire, rule_byte, shape_code};
 use sheet::{LETTER_K, LETTER_R};
 
-// How a shape was reached: one more than the place of the shape that it was made of, 0 where a row has it; the number of the rule that made it, or of the row; the number of the rule's H line, 0 where a row has it.
+// How a shape was reached: one more than the place of the shape that it was made of, 0 where a row has it; the number of the rule that made it, or of the row; the number of the rule's H line, 0 where a row has it. In fixed memory an Option would take twice the room.
 pub(crate) type Way = [u16; 3];
-
-// What the search for the shapes of the rows finds: how many there are, or that there are more than 512.
-#[derive(Drop)]
-enum RowShapes {
-    Count(usize),
-    Over,
-}
-
-// What the search found beside the shapes.
-#[derive(Drop)]
-pub(crate) struct Found {
-    // 1 for each rule that fires on a shape that was found.
-    pub fired: [u8; 256],
-    // How many shapes were found.
-    pub count: usize,
-    // There is a 513th shape.
-    pub full: bool,
-}
 
 // 17,792 zeros.
 pub(crate) fn no_index() -> [u16; 17792]
@@ -71,7 +53,7 @@ fn row_code(lines: &[u32], n: usize, width: usize) -> usize
     shape_code(lines[8 * n + 1], &lines[at..end])
 }
 
-// Finds the shape of the row at line `n`. Answers how many shapes there are then.
+// Finds the shape of the row at line `n`. Answers how many shapes there are then; None where that would be a 513th.
 fn find_row(
     lines: &[u32],
     n: usize,
@@ -81,122 +63,99 @@ fn find_row(
     index: &mut [u16; 17792],
     ways: &mut [Way; 512],
     count: usize,
-) -> RowShapes
+) -> Option<usize>
     requires { RowAt lines.now n width (row + 1) × RowsFound (rules_in lines.now) (rows_in lines.now) shapes.old index.old ways.old count row }
     ensures { RowsTried (rules_in lines.now) (rows_in lines.now) shapes.new index.new ways.new (row + 1) result }
 {
     let code = row_code(lines, n, width);
     if index[code] != 0 {
-        return RowShapes::Count(count);
+        return Some(count);
     }
     if count == 512 {
-        return RowShapes::Over;
+        return None;
     }
     push(shapes, index, ways, count, code, 0, row + 1, 0);
-    RowShapes::Count(count + 1)
+    Some(count + 1)
 }
 
-// Finds the shapes of the rows.
+// Finds the shapes of the rows. Answers how many there are; None where there are more than 512.
 fn find_rows(
     lines: &[u32],
     shapes: &mut [u32; 512],
     index: &mut [u16; 17792],
     ways: &mut [Way; 512],
-) -> RowShapes
+) -> Option<usize>
     requires { SheetHeld lines.now × (length shapes.old ≡ 512) × Clear index.old 17792 × (length ways.old ≡ 512) }
     ensures { RowsTried (rules_in lines.now) (rows_in lines.now) shapes.new index.new ways.new (length (rows_in lines.now)) result }
 {
     let mut widths = [0u32; 65];
     let mut count: usize = 0;
     let mut row: usize = 0;
-    let mut n: usize = 0;
-    while 8 * n < lines.len() {
-        let letter = lines[8 * n];
-        let kind = lines[8 * n + 1] as usize;
-        if letter == LETTER_K {
-            widths[kind] = lines[8 * n + 2];
-        } else if letter == LETTER_R {
-            match find_row(
-                lines,
-                n,
-                widths[kind] as usize,
-                row,
-                shapes,
-                index,
-                ways,
-                count,
-            ) {
-                RowShapes::Count(found) => count = found,
-                RowShapes::Over => return RowShapes::Over,
-            }
+    for (n, line) in lines.as_chunks::<8>().0.iter().enumerate() {
+        let kind = line[1] as usize;
+        if line[0] == LETTER_K {
+            widths[kind] = line[2];
+        } else if line[0] == LETTER_R {
+            let width = widths[kind] as usize;
+            count = find_row(lines, n, width, row, shapes, index, ways, count)?;
             row += 1;
         }
-        n += 1;
     }
-    RowShapes::Count(count)
+    Some(count)
 }
 
-// Finds the shapes that the rules reach from the rows, up to 512, in the order of discovery, and which rules fire. Notes the firings.
+// Finds the shapes that the rules reach from the rows, up to 512, in the order of discovery, and which rules fire. Answers how many shapes there are; None where there are more. Notes the firings.
 pub(crate) fn search(
     lines: &[u32],
     table: &[u8; 16384],
     rules: usize,
     kinds: &[u16; 321],
     shapes: &mut [u32; 512],
-    // One more than the place of a shape among those found; 0 where it was not found.
+    // One more than the place of a shape among those found; 0 where it was not found, since an Option would take twice the room.
     index: &mut [u16; 17792],
     ways: &mut [Way; 512],
     notes: &mut [Note],
     // Where the notes of each shape begin; those of the last end where the next would begin.
     starts: &mut [u32; 513],
-) -> Found
+    // Whether a rule fires on a shape that was found.
+    fired: &mut [bool; 256],
+) -> Option<usize>
     requires { SheetHeld lines.now × TableFits table.now rules × (table_rules table.now rules ≡ rules_in lines.now) × (length shapes.old ≡ 512) × Clear index.old 17792 × (length ways.old ≡ 512) × ByKind table.now rules kinds.now
-        × (length notes.old ≤ 8192) × (length starts.old ≡ 513) }
-    ensures { Searched (rules_in lines.now) (rows_in lines.now) shapes.new index.new ways.new result.fired result.count result.full
-        × (result.full ≡ false → Noted table.now rules shapes.new index.new notes.new starts.new result.count) }
+        × (length notes.old ≤ 8192) × (length starts.old ≡ 513) × NoneFired fired.old }
+    ensures { Searched (rules_in lines.now) (rows_in lines.now) shapes.new index.new ways.new fired.new result
+        × IfSome result (Noted table.now rules shapes.new index.new notes.new starts.new) }
 {
-    let mut fired = [0u8; 256];
-    let mut full = false;
-    let RowShapes::Count(rows) = find_rows(lines, shapes, index, ways) else {
-        full = true;
-        return Found {
-            fired,
-            count: 512,
-            full,
-        };
-    };
-    let mut count = rows;
+    let mut count = find_rows(lines, shapes, index, ways)?;
     let patterns = sheet::pattern_table();
     let mut k: usize = 0;
     starts[0] = 0;
     let mut s: usize = 0;
-    'search: while s < count {
+    // The shapes that are found are followed in turn, and there are more of them from then on.
+    while s < count {
         let shape = shapes[s] as usize;
         let kind = shape / 278 + 1;
         let digits = sheet::digits_in(&patterns, shape % 278 + 1);
-        let mut r = next_fire(table, rules, kinds, kind, kind, digits);
-        while r < rules {
-            fired[r] = 1;
+        let mut next = next_fire(table, rules, kinds, kind, kind, digits);
+        // This walks the chain of the rules that fire.
+        while let Some(r) = next {
+            fired[r] = true;
             let heads = rule_byte(table, r, 28);
-            let mut h: usize = 0;
-            while h < heads {
+            for h in 0..heads {
                 let code = made(table, rules, r, h, digits);
                 if index[code] == 0 {
                     if count == 512 {
-                        full = true;
-                        break 'search;
+                        return None;
                     }
                     push(shapes, index, ways, count, code, s + 1, r + 1, h + 1);
                     count += 1;
                 }
                 note(notes, k, 8 * r + 2 * h, index[code]);
                 k += 1;
-                h += 1;
             }
-            r = next_fire(table, rules, kinds, 65 + r, kind, digits);
+            next = next_fire(table, rules, kinds, 65 + r, kind, digits);
         }
         starts[s + 1] = k as u32;
         s += 1;
     }
-    Found { fired, count, full }
+    Some(count)
 }

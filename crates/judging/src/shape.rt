@@ -1,12 +1,9 @@
 // Shapes as numbers: 278 × (kind − 1) + (number of the pattern − 1). Whether a rule fires on a shape, and the shape that it makes.
 ghost use Rattle.std.specs.Prelude.{◌≡◌, ◌+◌, ◌-◌, ◌*◌, ◌≤◌, ◌<◌, length, get_or};
 ghost use Rattle.patterns.specs.Pattern.{numbers_pattern};
-ghost use Rattle.rules.specs.Table.{KindFits, TableFits, row_bytes, rule_in};
+ghost use Rattle.rules.specs.Table.{KindFits, TableFits, row_bytes, rule_in, first_place};
 ghost use Rattle.judging.specs.Inner.Codes.{CodeIs, FiresOn, MadeOf, DigitsFit, made_number};
-ghost use Rattle.judging.specs.Inner.Firing.{ByKind, Place, NextFire};
-
-use crate::wide;
-use sheet::PatternAnswer;
+ghost use Rattle.judging.specs.Inner.Firing.{ByKind, Place, NextFires};
 
 // The number of the shape with a kind and the pattern of the numbers.
 pub(crate) fn shape_code(kind: u32, numbers: &[u32]) -> usize
@@ -14,8 +11,8 @@ pub(crate) fn shape_code(kind: u32, numbers: &[u32]) -> usize
     ensures { CodeIs kind (numbers_pattern numbers.now) result }
 {
     match sheet::pattern(numbers) {
-        PatternAnswer::Number(n) => 278 * (kind as usize - 1) + n - 1,
-        PatternAnswer::FieldCount => 0,
+        Some(n) => 278 * (kind as usize - 1) + n - 1,
+        None => 0,
     }
 }
 
@@ -24,7 +21,16 @@ pub(crate) fn rule_byte(table: &[u8; 16384], r: usize, i: usize) -> usize
     requires { (length table.now ≡ 16384) × (r < 256) × (i < 64) }
     ensures { (result ≡ get_or (row_bytes table.now r) i 0) × (result < 256) }
 {
-    wide::of_u8(table[64 * r + i])
+    usize::from(table[64 * r + i])
+}
+
+// The field in which the mark of field `i` of rule `r` stands first.
+fn first_field(table: &[u8; 16384], rules: usize, r: usize, i: usize) -> usize
+    requires { TableFits table.now rules × (r < rules) × (i < get_or (row_bytes table.now r) 1 0) }
+    ensures { (result ≡ first_place (get_or (rule_in (row_bytes table.now r)).marks i 0) (rule_in (row_bytes table.now r)).marks - 1) × (result < 6) }
+{
+    let mark = rule_byte(table, r, 2 + i);
+    rule_byte(table, r, 8 + mark) - 1
 }
 
 // Whether rule `r` fires on a record of this kind and pattern: it has as many fields as the rule has marks, and each has the digit of its mark's first place.
@@ -39,24 +45,13 @@ fn fires(table: &[u8; 16384], rules: usize, r: usize, kind: usize, digits: [u8; 
     if digits[width - 1] == 0 {
         return false;
     }
-    if width < 6 {
-        if digits[width] != 0 {
-            return false;
-        }
+    if width < 6 && digits[width] != 0 {
+        return false;
     }
-    let mut i: usize = 0;
-    while i < width {
-        let mark = rule_byte(table, r, 2 + i);
-        let place = rule_byte(table, r, 8 + mark);
-        if digits[i] != digits[place - 1] {
-            return false;
-        }
-        i += 1;
-    }
-    true
+    (0..width).all(|i| digits[i] == digits[first_field(table, rules, r, i)])
 }
 
-// The first rule after place `p` that fires on a record of this kind and pattern; `rules` where none does. A place is a kind, before all rules, or 65 + the rule of this kind that it comes after.
+// The first rule after place `p` that fires on a record of this kind and pattern. A place is a kind, before all rules, or 65 + the rule of this kind that it comes after.
 pub(crate) fn next_fire(
     table: &[u8; 16384],
     rules: usize,
@@ -64,18 +59,19 @@ pub(crate) fn next_fire(
     p: usize,
     kind: usize,
     digits: [u8; 6],
-) -> usize
+) -> Option<usize>
     requires { TableFits table.now rules × ByKind table.now rules kinds.now × Place table.now rules kind p × DigitsFit digits }
-    ensures { NextFire table.now rules (p - 64) kind digits result }
+    ensures { NextFires table.now rules (p - 64) kind digits result }
 {
-    let mut q = wide::of_u16(kinds[p]);
+    let mut q = usize::from(kinds[p]);
+    // This walks the chain of the rules of one kind.
     while q < rules {
         if fires(table, rules, q, kind, digits) {
-            return q;
+            return Some(q);
         }
-        q = wide::of_u16(kinds[65 + q]);
+        q = usize::from(kinds[65 + q]);
     }
-    q
+    None
 }
 
 // The number in a field of a made record: the digit that its mark has, or a number above all digits for a fresh mark.
@@ -87,7 +83,7 @@ fn made_number(table: &[u8; 16384], rules: usize, r: usize, mark: usize, digits:
     if place == 0 {
         return (rule_byte(table, r, 1) + mark + 1) as u32;
     }
-    wide::of_u8(digits[place - 1]) as u32
+    u32::from(digits[place - 1])
 }
 
 // The shape that H line `h` of rule `r` makes of a record of this pattern.
@@ -97,11 +93,10 @@ pub(crate) fn made(table: &[u8; 16384], rules: usize, r: usize, h: usize, digits
 {
     let at = 32 + 8 * h;
     let width = rule_byte(table, r, at + 1);
-    let mut numbers = [0u32; 6];
-    let mut i: usize = 0;
-    while i < width {
-        numbers[i] = made_number(table, rules, r, rule_byte(table, r, at + 2 + i), digits);
-        i += 1;
+    let mut room = [0u32; 6];
+    let numbers = &mut room[..width];
+    for (i, number) in numbers.iter_mut().enumerate() {
+        *number = made_number(table, rules, r, rule_byte(table, r, at + 2 + i), digits);
     }
-    shape_code(rule_byte(table, r, at) as u32, &numbers[..width])
+    shape_code(rule_byte(table, r, at) as u32, numbers)
 }

@@ -6,18 +6,31 @@
 ghost use Rattle.std.specs.Prelude.{◌≡◌, [], ℕ, ◌+◌, ◌*◌, ◌≤◌, ◌<◌, length, get_or};
 ghost use Rattle.rules.specs.Table.{table_rules, row_bytes};
 ghost use Rattle.judging.specs.Inner.Nodes.{Grid, Zeros, from_of, link_of};
-ghost use Rattle.judging.specs.Inner.Links.{Spreads, turning_number, has_turn};
+ghost use Rattle.judging.specs.Inner.Links.{Spreads, turning_number};
 ghost use Rattle.judging.specs.Inner.Noted.{NoteFits, NoteLink, NotesLink};
 ghost use Rattle.judging.specs.Inner.Order.{Ordered};
 ghost use Rattle.judging.specs.Inner.Passes.{is_calm, is_over, node_of, Live, Done, Swept, Rests, Just, Upto, FreshLink, Best, ShapeLink, EachLink, Inside, Walked};
-ghost use Rattle.judging.specs.Inner.Ground.{Ground};
+ghost use Rattle.judging.specs.Inner.Ground.{GroundOf};
 
 use crate::fresh::first_waiting;
 use crate::grid::{Numbers, Raises, field, from_of, number, put_field, put_raise};
 use crate::notes::{Note, note_shape};
 use crate::order::order_of;
 use crate::shape::rule_byte;
-use crate::wide;
+
+// What the sweeps go by: the table of rules, the rules by their kinds, the found shapes with their places, and the notes of the search.
+#[derive(Clone, Copy)]
+pub(crate) struct Basis<'a> {
+    pub table: &'a [u8; 16384],
+    pub rules: usize,
+    pub kinds: &'a [u16; 321],
+    pub shapes: &'a [u32; 512],
+    pub index: &'a [u16; 17792],
+    pub notes: &'a [Note],
+    pub starts: &'a [u32; 513],
+    // How many shapes were found.
+    pub count: usize,
+}
 
 // What following links raised last: nothing, a node, or a node that was raised above the number of nodes; then nothing more is followed.
 // (A node is a u16 here: beside a usize the case would stand in eight bytes, seven of them copied for nothing.)
@@ -28,64 +41,33 @@ enum Raised {
     Over(u16),
 }
 
-// Where the fresh links of a rule come from: a place of its B line, 0 where the rule carries nothing, or nowhere.
-#[derive(Drop)]
-enum Source {
-    Place(usize),
-    Nowhere,
-}
+impl Raised {
+    // Whether a node was raised above the number of nodes.
+    fn is_over(self) -> bool
+        ensures { result ≡ is_over self }
+    {
+        matches!(self, Raised::Over(_))
+    }
 
-// What the generations come to: they rest, or they rise for ever in a loop through a node.
-#[derive(Clone, Copy)]
-pub(crate) enum Turning {
-    Nowhere,
-    At(usize),
-}
+    // Whether nothing was raised.
+    fn is_calm(self) -> bool
+        ensures { result ≡ is_calm self }
+    {
+        matches!(self, Raised::Nothing)
+    }
 
-// Whether a node was raised above the number of nodes.
-fn is_over(last: Raised) -> bool
-    ensures { result ≡ is_over last }
-{
-    match last {
-        Raised::Nothing => false,
-        Raised::Node(_) => false,
-        Raised::Over(_) => true,
+    // The node that was raised last; 0 where none was.
+    fn node(self) -> usize
+        ensures { result ≡ node_of self }
+    {
+        match self {
+            Raised::Nothing => 0,
+            Raised::Node(v) | Raised::Over(v) => v as usize,
+        }
     }
 }
 
-// Whether nothing was raised.
-fn is_calm(last: Raised) -> bool
-    ensures { result ≡ is_calm last }
-{
-    match last {
-        Raised::Nothing => true,
-        Raised::Node(_) => false,
-        Raised::Over(_) => false,
-    }
-}
-
-// Whether there is a loop.
-fn turns(turning: Turning) -> bool
-    ensures { result ≡ has_turn turning }
-{
-    match turning {
-        Turning::Nowhere => false,
-        Turning::At(_) => true,
-    }
-}
-
-// The node that was raised last; 0 where none was.
-fn node_of(last: Raised) -> usize
-    ensures { result ≡ node_of last }
-{
-    match last {
-        Raised::Nothing => 0,
-        Raised::Node(v) => wide::of_u16(v),
-        Raised::Over(v) => wide::of_u16(v),
-    }
-}
-
-// Follows one link, from field p of shape s to field j of shape t, where there are n nodes. `waiting` holds 1 for each shape whose links
+// Follows one link, from field p of shape s to field j of shape t, where there are n nodes. `waiting` says of each shape whether its links
 // are to be followed.
 fn follow(
     n: usize,
@@ -96,13 +78,13 @@ fn follow(
     link: u16,
     generations: &mut Numbers,
     raises: &mut Raises,
-    waiting: &mut [u8; 512],
+    waiting: &mut [bool; 512],
     last: Raised,
 ) -> Raised
     requires { Live n generations.old raises.old waiting.old last × (p < 7) × (j < 7) × (7 * s + 7 ≤ n) × (7 * t + 7 ≤ n) }
     ensures { Done n (Just (7 * s + p) (7 * t + j) link) generations.old raises.old waiting.old last generations.new raises.new waiting.new result }
 {
-    if is_over(last) {
+    if last.is_over() {
         return last;
     }
     let x = field(generations, s, p) + link % 2;
@@ -111,7 +93,7 @@ fn follow(
     }
     put_field(generations, t, j, x);
     put_raise(raises, t, j, (7 * s + p) as u16, link);
-    waiting[t] = 1;
+    waiting[t] = true;
     let v = (7 * t + j) as u16;
     if n < x as usize {
         return Raised::Over(v);
@@ -119,20 +101,18 @@ fn follow(
     Raised::Node(v)
 }
 
-// The source of rule `r` with the largest generation in shape `s`, the first such.
-fn best_source(table: &[u8; 16384], r: usize, s: usize, generations: &Numbers) -> Source
+// The source of rule `r` with the largest generation in shape `s`, the first such: a place of its B line, 0 where the rule carries nothing.
+fn best_source(table: &[u8; 16384], r: usize, s: usize, generations: &Numbers) -> Option<usize>
     requires { (length table.now ≡ 16384) × (r < 256) × (s < 512) × Grid generations.now }
     ensures { Best (row_bytes table.now r) generations.now s result }
 {
-    let mut best = Source::Nowhere;
+    let mut best = None;
     let mut most: u16 = 0;
-    let mut p: usize = 7;
-    while 0 < p {
-        p -= 1;
+    for p in (0..7).rev() {
         if rule_byte(table, r, 21 + p) == 1 {
             let x = field(generations, s, p);
             if most <= x {
-                best = Source::Place(p);
+                best = Some(p);
                 most = x;
             }
         }
@@ -152,15 +132,15 @@ fn follow_fresh(
     link: u16,
     generations: &mut Numbers,
     raises: &mut Raises,
-    waiting: &mut [u8; 512],
+    waiting: &mut [bool; 512],
     before: Raised,
 ) -> Raised
     requires { (length table.now ≡ 16384) × (r < 256) × Live n generations.old raises.old waiting.old before × (j < 7) × (7 * s + 7 ≤ n) × (7 * t + 7 ≤ n) }
     ensures { Done n (Upto 7 (FreshLink (row_bytes table.now r) s (7 * t + j) link)) generations.old raises.old waiting.old before generations.new raises.new waiting.new result }
 {
     match best_source(table, r, s, generations) {
-        Source::Nowhere => before,
-        Source::Place(p) => follow(n, s, p, t, j, link, generations, raises, waiting, before),
+        None => before,
+        Some(p) => follow(n, s, p, t, j, link, generations, raises, waiting, before),
     }
 }
 
@@ -172,7 +152,7 @@ fn follow_note(
     note: Note,
     generations: &mut Numbers,
     raises: &mut Raises,
-    waiting: &mut [u8; 512],
+    waiting: &mut [bool; 512],
     before: Raised,
 ) -> Raised
     requires { (length table.now ≡ 16384) × NoteFits table.now n note × Live n generations.old raises.old waiting.old before × (7 * s + 7 ≤ n) }
@@ -185,8 +165,7 @@ fn follow_note(
     let width = rule_byte(table, r, 33 + 8 * h);
     let link = (8 * r + 2 * h) as u16;
     let mut last = before;
-    let mut j: usize = 0;
-    while j < width {
+    for j in 0..width {
         let mark = rule_byte(table, r, 34 + 8 * h + j);
         let place = rule_byte(table, r, 8 + mark);
         if place == 0 {
@@ -217,7 +196,6 @@ fn follow_note(
                 last,
             );
         }
-        j += 1;
     }
     last
 }
@@ -230,49 +208,40 @@ fn follow_noted(
     notes: &[Note],
     generations: &mut Numbers,
     raises: &mut Raises,
-    waiting: &mut [u8; 512],
+    waiting: &mut [bool; 512],
     before: Raised,
 ) -> Raised
     requires { (length table.now ≡ 16384) × ((k : ℕ) → k < length notes.now → NoteFits table.now n (get_or notes.now k [])) × Live n generations.old raises.old waiting.old before × (7 * s + 7 ≤ n) }
     ensures { Done n (NotesLink table.now notes.now s) generations.old raises.old waiting.old before generations.new raises.new waiting.new result }
 {
     let mut last = before;
-    let mut k: usize = 0;
-    while k < notes.len() {
-        last = follow_note(table, n, s, notes[k], generations, raises, waiting, last);
-        k += 1;
+    for &note in notes {
+        last = follow_note(table, n, s, note, generations, raises, waiting, last);
     }
     last
 }
 
 // Follows all links from the shape at place `s`: by the notes of the search, where it had room for them, and otherwise by notes that are made anew.
 fn follow_shape(
-    table: &[u8; 16384],
-    rules: usize,
-    kinds: &[u16; 321],
-    shapes: &[u32; 512],
-    index: &[u16; 17792],
-    notes: &[Note],
-    starts: &[u32; 513],
-    count: usize,
+    basis: &Basis,
     s: usize,
     generations: &mut Numbers,
     raises: &mut Raises,
-    waiting: &mut [u8; 512],
+    waiting: &mut [bool; 512],
     before: Raised,
 ) -> Raised
-    requires { Ground table.now rules kinds.now shapes.now index.now notes.now starts.now count × (s < count) × Live (7 * count) generations.old raises.old waiting.old before }
-    ensures { Done (7 * count) (ShapeLink table.now rules index.now (get_or shapes.now s 0) s) generations.old raises.old waiting.old before generations.new raises.new waiting.new result }
+    requires { GroundOf basis.now × (s < basis.now.count) × Live (7 * basis.now.count) generations.old raises.old waiting.old before }
+    ensures { let b = basis.now in Done (7 * b.count) (ShapeLink b.table.now b.rules b.index.now (get_or b.shapes.now s 0) s) generations.old raises.old waiting.old before generations.new raises.new waiting.new result }
 {
-    let n = 7 * count;
-    let first = wide::of_u32(starts[s]);
-    let end = wide::of_u32(starts[s + 1]);
-    if end <= notes.len() {
+    let n = 7 * basis.count;
+    let first = basis.starts[s] as usize;
+    let end = basis.starts[s + 1] as usize;
+    if end <= basis.notes.len() {
         return follow_noted(
-            table,
+            basis.table,
             n,
             s,
-            &notes[first..end],
+            &basis.notes[first..end],
             generations,
             raises,
             waiting,
@@ -280,16 +249,17 @@ fn follow_shape(
         );
     }
     let mut here = [[0u16; 2]; 1024];
+    let shape = basis.shapes[s] as usize;
     let noted = note_shape(
-        table,
-        rules,
-        kinds,
-        wide::of_u32(shapes[s]),
-        index,
+        basis.table,
+        basis.rules,
+        basis.kinds,
+        shape,
+        basis.index,
         &mut here,
     );
     follow_noted(
-        table,
+        basis.table,
         n,
         s,
         &here[..noted],
@@ -302,107 +272,58 @@ fn follow_shape(
 
 // Follows the links of each waiting shape once, the shapes in this order. Answers what was raised last.
 fn sweep(
-    table: &[u8; 16384],
-    rules: usize,
-    kinds: &[u16; 321],
-    shapes: &[u32; 512],
-    index: &[u16; 17792],
-    notes: &[Note],
-    starts: &[u32; 513],
+    basis: &Basis,
     order: &[u16; 512],
-    count: usize,
     generations: &mut Numbers,
     raises: &mut Raises,
-    waiting: &mut [u8; 512],
+    waiting: &mut [bool; 512],
 ) -> Raised
-    requires { Ground table.now rules kinds.now shapes.now index.now notes.now starts.now count × Ordered order.now count
-        × Live (7 * count) generations.old raises.old waiting.old Raised.Nothing
-        × ((u v link : ℕ) → EachLink table.now rules shapes.now index.now count u v link → Rests generations.old waiting.old u v link) }
-    ensures { Swept (7 * count) (EachLink table.now rules shapes.now index.now count) count generations.old raises.old generations.new raises.new waiting.new result }
+    requires { GroundOf basis.now × Ordered order.now basis.now.count
+        × Live (7 * basis.now.count) generations.old raises.old waiting.old Raised.Nothing
+        × ((u v link : ℕ) → EachLink basis.now.table.now basis.now.rules basis.now.shapes.now basis.now.index.now basis.now.count u v link → Rests generations.old waiting.old u v link) }
+    ensures { let b = basis.now in Swept (7 * b.count) (EachLink b.table.now b.rules b.shapes.now b.index.now b.count) b.count generations.old raises.old generations.new raises.new waiting.new result }
 {
     let mut last = Raised::Nothing;
-    let mut i: usize = 0;
-    while i < count {
-        let s = order[i] as usize;
-        if waiting[s] == 1 {
-            waiting[s] = 0;
-            last = follow_shape(
-                table,
-                rules,
-                kinds,
-                shapes,
-                index,
-                notes,
-                starts,
-                count,
-                s,
-                generations,
-                raises,
-                waiting,
-                last,
-            );
+    for &place in &order[..basis.count] {
+        let s = place as usize;
+        if waiting[s] {
+            waiting[s] = false;
+            last = follow_shape(basis, s, generations, raises, waiting, last);
         }
-        i += 1;
     }
     last
 }
 
-// Goes back n links from node x. Answers nowhere where a node of generation 0 is met, and otherwise the node that it comes to.
-fn back(n: usize, generations: &Numbers, raises: &Raises, x: usize) -> Turning
+// The node that lies n links back from node x, where no node of generation 0 is met.
+fn back(n: usize, generations: &Numbers, raises: &Raises, x: usize) -> Option<usize>
     requires { Inside n generations.now (from_of raises.now) x }
     ensures { Walked n generations.now (from_of raises.now) x (turning_number result) }
 {
     let mut y = x;
-    let mut k: usize = 0;
-    while k < n {
+    for _ in 0..n {
         if number(generations, y) == 0 {
-            return Turning::Nowhere;
+            return None;
         }
         y = from_of(raises, y) as usize;
-        k += 1;
     }
-    Turning::At(y)
+    Some(y)
 }
 
 // Raises the generations, all 0 at first, until all is settled or they rise in a loop; each node keeps the link that raised it last. Answers a node of the loop, if there is one.
-pub(crate) fn spread(
-    table: &[u8; 16384],
-    rules: usize,
-    kinds: &[u16; 321],
-    shapes: &[u32; 512],
-    index: &[u16; 17792],
-    notes: &[Note],
-    starts: &[u32; 513],
-    count: usize,
-    generations: &mut Numbers,
-    raises: &mut Raises,
-) -> Turning
-    requires { Ground table.now rules kinds.now shapes.now index.now notes.now starts.now count × Zeros generations.old × (length raises.old ≡ 3584) }
-    ensures { Spreads (table_rules table.now rules) shapes.now count generations.new (from_of raises.new) (link_of raises.new) (turning_number result) }
+pub(crate) fn spread(basis: &Basis, generations: &mut Numbers, raises: &mut Raises) -> Option<usize>
+    requires { GroundOf basis.now × Zeros generations.old × (length raises.old ≡ 3584) }
+    ensures { let b = basis.now in Spreads (table_rules b.table.now b.rules) b.shapes.now b.count generations.new (from_of raises.new) (link_of raises.new) (turning_number result) }
 {
-    let n = 7 * count;
-    let mut waiting = first_waiting(table, rules, shapes, count);
-    let order = order_of(&waiting, notes, starts, count);
+    let n = 7 * basis.count;
+    let mut waiting = first_waiting(basis.table, basis.rules, basis.shapes, basis.count);
+    let order = order_of(&waiting, basis.notes, basis.starts, basis.count);
     loop {
-        let last = sweep(
-            table,
-            rules,
-            kinds,
-            shapes,
-            index,
-            notes,
-            starts,
-            &order,
-            count,
-            generations,
-            raises,
-            &mut waiting,
-        );
-        if is_calm(last) {
-            return Turning::Nowhere;
+        let last = sweep(basis, &order, generations, raises, &mut waiting);
+        if last.is_calm() {
+            return None;
         }
-        let turning = back(n, generations, raises, node_of(last));
-        if turns(turning) {
+        let turning = back(n, generations, raises, last.node());
+        if turning.is_some() {
             return turning;
         }
     }

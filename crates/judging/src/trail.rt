@@ -6,7 +6,6 @@ ghost use Rattle.judging.specs.Inner.Written.{put_steps, one_step, line_to, way_
 
 use crate::grid::{Numbers, Raises, from_of, link_of, number};
 use crate::search::Way;
-use crate::wide;
 
 // Puts a step's five numbers at step `at`.
 fn put_step(steps: &mut [u16], at: usize, rule: u16, head: u16, from: u16, to: u16, fresh: u16)
@@ -14,11 +13,7 @@ fn put_step(steps: &mut [u16], at: usize, rule: u16, head: u16, from: u16, to: u
     ensures { steps.new ≡ put_steps steps.old at (one_step rule head from to fresh) }
 {
     let k = 5 * at;
-    steps[k] = rule;
-    steps[k + 1] = head;
-    steps[k + 2] = from;
-    steps[k + 3] = to;
-    steps[k + 4] = fresh;
+    steps[k..k + 5].copy_from_slice(&[rule, head, from, to, fresh]);
 }
 
 // How many firings lead from a row to the shape at place `s`.
@@ -28,6 +23,7 @@ pub(crate) fn way_length(ways: &[Way; 512], count: usize, s: usize) -> usize
 {
     let mut x = s;
     let mut k: usize = 0;
+    // A while: it walks a chain, whose length is what is asked.
     while ways[x][0] != 0 {
         x = ways[x][0] as usize - 1;
         k += 1;
@@ -48,13 +44,11 @@ pub(crate) fn put_way(
         × (result ≡ maker_at ways.now (way_back ways.now k s)) }
 {
     let mut x = s;
-    let mut at = k;
-    while 0 < at {
-        at -= 1;
+    for at in (0..k).rev() {
         put_step(steps, at, ways[x][1], ways[x][2], 0, 0, 0);
         x = ways[x][0] as usize - 1;
     }
-    wide::of_u16(ways[x][1])
+    ways[x][1] as usize
 }
 
 // Puts k steps after step `first`: the links that lead to node x, the last one last.
@@ -63,9 +57,7 @@ pub(crate) fn put_links(steps: &mut [u16], first: usize, k: usize, raises: &Rais
     ensures { steps.new ≡ put_steps steps.old first (line_to (from_of raises.now) (link_of raises.now) k x) }
 {
     let mut y = x;
-    let mut left = k;
-    while 0 < left {
-        left -= 1;
+    for left in (0..k).rev() {
         let u = from_of(raises, y);
         let code = link_of(raises, y);
         put_step(
@@ -87,10 +79,8 @@ pub(crate) fn line_start(k: usize, raises: &Raises, x: usize) -> usize
     ensures { result ≡ back (from_of raises.now) k x }
 {
     let mut y = x;
-    let mut left = k;
-    while 0 < left {
+    for _ in 0..k {
         y = from_of(raises, y) as usize;
-        left -= 1;
     }
     y
 }
@@ -101,14 +91,12 @@ pub(crate) fn deepest(n: usize, generations: &Numbers, raises: &Raises) -> usize
     ensures { Deepest generations.now (link_of raises.now) n result }
 {
     let mut best: usize = 0;
-    let mut v: usize = 0;
-    while v < n {
+    for v in 0..n {
         if link_of(raises, v) % 2 == 1 {
             if number(generations, best) < number(generations, v) {
                 best = v;
             }
         }
-        v += 1;
     }
     best
 }
@@ -120,6 +108,7 @@ pub(crate) fn turn_length(n: usize, raises: &Raises, y: usize) -> usize
 {
     let mut z = from_of(raises, y) as usize;
     let mut k: usize = 1;
+    // A while: it walks a chain, whose length is what is asked.
     while z != y {
         z = from_of(raises, z) as usize;
         k += 1;
@@ -134,6 +123,7 @@ pub(crate) fn line_length(n: usize, generations: &Numbers, raises: &Raises, x: u
 {
     let mut y = x;
     let mut k: usize = 0;
+    // A while: it walks a chain, whose length is what is asked.
     while number(generations, y) != 0 {
         y = from_of(raises, y) as usize;
         k += 1;

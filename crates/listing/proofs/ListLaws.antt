@@ -3,26 +3,22 @@ use mathlib.Core.Path.{◌≡◌, refl, sym, subst, subst₂, ap, ◌∙◌}
 use mathlib.Core.List.{List, [], ◌∷◌, ◌++◌, map}
 use Prim.Native.Nat.{ℕ, ◌+◌, ◌*◌, ◌≤◌}
 use native.Mathlib.Omega.{arith}
-use lib.ListN.{length, get_or, take, drop, length-append}
+use lib.ListN.{length, get_or, drop, length-append}
 use Rattle.columns.specs.Column.{put}
 use Rattle.sheet.specs.Line.{Line, text_of}
 use Rattle.sheet.specs.Sheet.{IsSheet}
-use Rattle.sheet.specs.Read.{ReadMeets}
-use Rattle.sheet.specs.declared.ReadAnswer.TheVariants.{Lines}
 use Rattle.sheet.proofs.PutLaws.{put_more}
 use Rattle.sheet.proofs.Sheets.{sheet_held_is}
 use Rattle.chase.specs.Lists.{In}
 use Rattle.rules.specs.Table.{SheetHeld, good_lines, lines_in}
 use Rattle.carrying.specs.Carrying.{Row}
 use Rattle.carrying.specs.Contract.{carried, refuses, run, row_line, record_room, CarriedOut, Refuses, CarryMeets}
-use Rattle.report.specs.Lines.{line_text, PutMeets}
-use Rattle.report.specs.Inner.Promises.{SheetLent, Filled}
-use Rattle.report.specs.declared.PutAnswer.{PutAnswer}
+use Rattle.report.specs.Lines.{line_text}
+use Rattle.report.specs.Report.{Filled}
+use Rattle.report.specs.Inner.Promises.{SheetLent}
 use Rattle.report.proofs.Bounds.{sheet_unrefused}
-use Rattle.report.proofs.Filling.{length-line_text, put-fits}
-use Rattle.report.proofs.Ranges.{in_range_all}
-use Rattle.report.proofs.Reports.{read_good}
-use Rattle.listing.specs.Listing.{letter_c, listing_text, Carries, Prints}
+use Rattle.report.proofs.Filling.{length-line_text}
+use Rattle.listing.specs.Listing.{letter_c, listing_text, Carries}
 use Rattle.listing.specs.Inner.Records.{WidthsOf, records_to, AllPrintable, RecordsPut}
 use Rattle.listing.proofs.WidthLaws.{line_small}
 use Rattle.listing.proofs.RowLaws.{row_alike, row_range, firings_few}
@@ -30,16 +26,13 @@ use Rattle.listing.proofs.RecordLaws.{RowFits, all_records, all_printable}
 
 -- ---- the C line and the records
 
-pub totals_filled : (widths records : List ℕ) (count firings : ℕ) (before mid after : List ℕ) (answer : PutAnswer) (end : ℕ)
-    → count ≤ 4096 → firings ≤ 99999999 → 266260 ≤ length before → PutMeets letter_c (count ∷ firings ∷ []) before 0 answer mid
-    → RecordsPut widths records count mid after end
+pub totals_filled : (widths records : List ℕ) (count firings : ℕ) (before mid after : List ℕ) (end : ℕ) → count ≤ 4096 → 266260 ≤ length before
+    → mid ≡ put before 0 (line_text letter_c (count ∷ firings ∷ [])) → RecordsPut widths records count mid after end
     → Filled (λ p. p ≡ line_text letter_c (count ∷ firings ∷ []) ++ text_of (records_to widths records count)) before end after
-totals_filled widths records count firings before mid after answer end few low room m r =
+totals_filled widths records count firings before mid after end few room first r =
     let line = line_text letter_c (count ∷ firings ∷ []) in
     let text = text_of (records_to widths records count) in
     let size : length line ≡ 20 = length-line_text letter_c (count ∷ firings ∷ []) in
-    let first : mid ≡ put before 0 line =
-    put-fits letter_c (count ∷ firings ∷ []) before 0 answer mid m (in_range_all (count ∷ firings ∷ []) (omega arith, (low, tt))) (omega (arith, room)) in
     let end_is : 20 ≡ 0 + length line = omega arith in
     record {
       printed = line ++ text;
@@ -118,10 +111,3 @@ refusal_small numbers before n k sheet (Refuses.large_number lines t m c f fresh
 pub refused_carries : (numbers before : List ℕ) (n k : ℕ) (now : List ℕ) → length before ≡ record_room → CarryMeets numbers before (refuses n k) now
     → (p : List ℕ) → p ≡ listing_text (refuses n k) [] → Carries numbers p
 refused_carries numbers before n k now room m p e = record { lent = before; lent_size = room; answer = refuses n k; now = now; meets = m; text = e }
-
--- ---- what was read
-
-pub read_prints : (text before after : List ℕ) → length before ≡ 13104 → (n : ℕ) → ReadMeets text before (Lines n) after
-    → (p : List ℕ) → Carries (take (8 * n) after) p → Prints text p
-read_prints text before after room n m p j =
-    let g = read_good text before after room n m in Prints.read g.lines g.read (rw g.held_is at j)

@@ -2,17 +2,17 @@
 use mathlib.Core.Path.{◌≡◌, refl, sym, subst, ap, ap₂, ◌∙◌}
 use mathlib.Core.Bool.{true}
 use mathlib.Core.List.{List, [], ◌∷◌, ◌++◌, map, append_assoc, append-nil}
-use Prim.Native.Nat.{ℕ, zero, suc, ◌+◌, ◌*◌, ◌≤◌, ◌<◌}
+use Prim.Native.Nat.{ℕ, zero, suc, ◌+◌, ◌-◌, ◌*◌, ◌≤◌, ◌<◌}
 use native.Mathlib.Numerals.{add-one}
 use native.Mathlib.Omega.{arith}
 use lib.ListN.{length, get_or, take, drop, length-append, length-map, length-drop}
-use lib.Seq.{drop-append-le, take-append-le, take-suc, take-length, length-take-le, take-take, get_or-drop, drop-drop, drop-cons, paste-zero}
+use lib.Seq.{take_at, drop-append-le, take-suc, take-length, length-take-le, drop-cons, paste-zero}
 use Rattle.patterns.specs.Outcome.{padded}
-use Rattle.patterns.proofs.ListLaws.{in_get_or, length-padded}
+use Rattle.patterns.proofs.ListLaws.{in_get_or}
 use Rattle.columns.specs.Column.{put}
 use Rattle.sheet.specs.Line.{R, Line, render, text_of, in_range, lent, lent_of}
 use Rattle.sheet.proofs.FormLaws.{take-padded}
-use Rattle.sheet.proofs.Lines.{length-render}
+use Rattle.sheet.proofs.Lines.{length-lent, length-render}
 use Rattle.sheet.proofs.PutLaws.{put_more}
 use Rattle.sheet.proofs.Sheets.{length-lent_of}
 use Rattle.chase.specs.Lists.{In}
@@ -20,11 +20,9 @@ use Rattle.chase.proofs.ListLaws.{map_in}
 use Rattle.rules.proofs.SheetLaws.{no_line, line_no, lent_from}
 use Rattle.carrying.specs.Carrying.{Row}
 use Rattle.carrying.specs.Contract.{row_line}
-use Rattle.report.specs.Lines.{line_text, PutMeets}
-use Rattle.report.specs.declared.PutAnswer.{PutAnswer}
-use Rattle.report.proofs.Filling.{put-fits}
+use Rattle.report.specs.Lines.{line_text}
 use Rattle.report.proofs.Theorems.{as_a_sheet's_line}
-use Rattle.listing.specs.Inner.Records.{width_at, record_at, records_to, Printable, AllPrintable, RecordsPut}
+use Rattle.listing.specs.Inner.Records.{width_of, line_of, record_at, records_to, Printable, AllPrintable, RecordsPut}
 
 abbrev r_line : ℕ → List ℕ → Line
 r_line kind numbers = record { letter = R; kind = kind; numbers = numbers }
@@ -66,36 +64,29 @@ module _ (widths : List ℕ) (size : length widths ≡ 65) (rows : List Row) (fi
         ∙ ap (λ (r : List ℕ). r ++ rest) (lent_from ls i inside ∙ ap (λ (l : Line). lent l ++ lent_of (drop (suc i) ls)) at_row.2)
         ∙ append_assoc (lent (row_line w)) (lent_of (drop (suc i) ls)) rest
 
-    kind_at : get_or records (8 * i + 1) 0 ≡ w.kind
+    held_at : record_at records i ≡ lent (row_line w)
+    held_at = ap (take 8) from ∙ take_at (lent (row_line w)) (lent_of (drop (suc i) ls) ++ rest) 8 (length-lent (row_line w))
+
+    row_is : line_of widths (lent (row_line w)) ≡ row_line w
     unfolding lent
-    kind_at = sym (get_or-drop (8 * i) records 1 0) ∙ ap (λ (r : List ℕ). get_or r 1 0) from
+    row_is = ap (r_line w.kind) (ap (λ (n : ℕ). take n (padded 6 w.numbers)) f.width ∙ take-padded 6 w.numbers f.few)
 
-    width-at : width_at widths records i ≡ length w.numbers
-    width-at = ap (λ (k : ℕ). get_or widths k 0) kind_at ∙ f.width
+    is_line : line_of widths (record_at records i) ≡ line_no ls i
+    is_line = ap (line_of widths) held_at ∙ row_is ∙ sym at_row.2
 
-    numbers-at : take (width_at widths records i) (drop (8 * i + 2) records) ≡ w.numbers
+    lent_printable : Printable widths (lent (row_line w))
     unfolding lent
-    numbers-at =
-        ap₂ (λ (n : ℕ) (r : List ℕ). take n r) width-at (sym (drop-drop 2 (8 * i) records) ∙ ap (drop 2) from)
-        ∙ take-append-le (length w.numbers) (padded 6 w.numbers) (lent_of (drop (suc i) ls) ++ rest) (omega (arith, f.few, length-padded 6 w.numbers))
-        ∙ take-padded 6 w.numbers f.few
-
-    is_row : record_at widths records i ≡ row_line w
-    is_row = ap₂ r_line kind_at numbers-at
-
-    is_line : record_at widths records i ≡ line_no ls i
-    is_line = is_row ∙ sym at_row.2
-
-    printable : i < 4096 → Printable widths records i
-    printable small =
+    lent_printable =
         record {
           size = size;
-          low = small;
-          inside = omega (arith, held_size, h);
-          kind = omega (arith, kind_at, f.kind);
-          narrow = omega (arith, width-at, f.few);
-          range = subst (λ (l : Line). in_range (l.kind ∷ l.numbers) ≡ true) (sym is_row) f.range;
+          long = length-lent (row_line w);
+          kind = f.kind;
+          narrow = omega (arith, f.width, f.few);
+          range = subst (λ (l : Line). in_range (l.kind ∷ l.numbers) ≡ true) (sym row_is) f.range;
         }
+
+    printable : Printable widths (record_at records i)
+    printable = subst (Printable widths) (sym held_at) lent_printable
 
   records_are : (n : ℕ) → n ≤ length rows → records_to widths records n ≡ take n ls
   records_are zero h = refl
@@ -107,36 +98,31 @@ module _ (widths : List ℕ) (size : length widths ≡ 65) (rows : List Row) (fi
   all_records = records_are (length rows) (omega arith) ∙ ap (λ (n : ℕ). take n ls) (sym (length-map rows row_line)) ∙ take-length ls
 
   pub all_printable : length rows ≤ 4096 → AllPrintable widths records (length rows)
-  all_printable few = record { few = few; each = λ i h. printable i h (omega arith) }
+  all_printable few = record { few = few; inside = omega (arith, held_size); each = λ i h. printable i h }
 
 -- ---- one record
 
-module _ {widths records : List ℕ} {i : ℕ} (p : Printable widths records i) where
+module _ {widths numbers : List ℕ} (p : Printable widths numbers) where
   abbrev line : Line
-  line = record_at widths records i
+  line = line_of widths numbers
 
-  numbers_long : length line.numbers ≡ width_at widths records i
-  numbers_long = length-take-le (width_at widths records i) (drop (8 * i + 2) records) (omega (arith, p.inside, p.narrow, length-drop (8 * i + 2) records))
+  numbers_long : length line.numbers ≡ width_of widths numbers
+  numbers_long = length-take-le (width_of widths numbers) (drop 2 numbers) (omega (arith, p.long, p.narrow, length-drop 2 numbers))
 
-  -- Its columns are the first of the seven numbers after its letter.
-  pub record_columns : (seven : List ℕ) → seven ≡ take 7 (drop (8 * i + 1) records) → (used : ℕ) → used ≡ width_at widths records i + 1
-      → take used seven ≡ line.kind ∷ line.numbers
-  record_columns seven e used u =
-      let after : suc (8 * i + 1) ≡ 8 * i + 2 = omega arith in
-      ap₂ (λ (n : ℕ) (r : List ℕ). take n r) (u ∙ add-one (width_at widths records i)) e
-      ∙ take-take (suc (width_at widths records i)) 7 (drop (8 * i + 1) records) (omega (arith, p.narrow))
-      ∙ ap (take (suc (width_at widths records i))) (drop-cons records (8 * i + 1) 0 (omega (arith, p.inside)))
-      ∙ ap (λ (k : ℕ). line.kind ∷ take (width_at widths records i) (drop k records)) after
+  -- Its columns are the numbers after its letter, as many as its kind has.
+  pub record_columns : (ns : List ℕ) → ns ≡ numbers → (used : ℕ) → used ≡ width_of widths numbers + 2 → take (used - 1) (drop 1 ns) ≡ line.kind ∷ line.numbers
+  record_columns ns e used u =
+      let one : used - 1 ≡ suc (width_of widths numbers) = omega arith in
+      ap₂ (λ (n : ℕ) (r : List ℕ). take n (drop 1 r)) one e ∙ ap (take (suc (width_of widths numbers))) (drop-cons numbers 1 0 (omega (arith, p.long)))
 
-  pub record_size : 9 * width_at widths records i + 11 ≡ length (render line)
-  record_size = omega (arith, length-render line, numbers_long)
+  pub columns_fit : (ns : List ℕ) → ns ≡ line.kind ∷ line.numbers → (in_range ns ≡ true) × (9 * length ns + 2 ≤ 65)
+  columns_fit ns e = (ap in_range e ∙ p.range, omega (arith, ap length e, numbers_long, p.narrow))
 
-  pub record_put : (ns before : List ℕ) (at : ℕ) (answer : PutAnswer) (after : List ℕ) → ns ≡ line.kind ∷ line.numbers → at + 65 ≤ length before
-      → PutMeets R ns before at answer after → after ≡ put before at (render line)
-  record_put ns before at answer after e room m =
-      put-fits R ns before at answer after m (ap in_range e ∙ p.range) (omega (arith, ap length e, numbers_long, p.narrow, room))
-      ∙ ap (λ (x : List ℕ). put before at (line_text R x)) e
-      ∙ ap (put before at) (as_a_sheet's_line line)
+  pub columns_long : (ns : List ℕ) → ns ≡ line.kind ∷ line.numbers → 9 * length ns + 2 ≡ length (render line)
+  columns_long ns e = omega (arith, ap length e, length-render line)
+
+  pub record_put : (ns before : List ℕ) (at : ℕ) → ns ≡ line.kind ∷ line.numbers → put before at (line_text R ns) ≡ put before at (render line)
+  record_put ns before at e = ap (λ (x : List ℕ). put before at (line_text R x)) e ∙ ap (put before at) (as_a_sheet's_line line)
 
 -- ---- one record after the other
 
@@ -156,13 +142,13 @@ filling_begun widths records count before room =
 
 pub filling_more : {widths records : List ℕ} {count i : ℕ} {before now : List ℕ} {at : ℕ} → Filling widths records count i before now at
     → AllPrintable widths records count → i < count → 266260 ≤ length before → (size : ℕ) (after : List ℕ) → length after ≡ length now
-    → size ≡ length (render (record_at widths records i)) → size ≤ 65 → after ≡ put now at (render (record_at widths records i))
+    → size ≡ length (render (line_of widths (record_at records i))) → size ≤ 65 → after ≡ put now at (render (line_of widths (record_at records i)))
     → Filling widths records count (i + 1) before after (at + size)
 filling_more {widths} {records} {count} {i} {before} {now} {at} f all more room size after long is low e =
     let text = text_of (records_to widths records i) in
-    let line = render (record_at widths records i) in
+    let line = render (line_of widths (record_at records i)) in
     let next : text_of (records_to widths records (i + 1)) ≡ text ++ line =
-    ap (λ (k : ℕ). text_of (records_to widths records k)) (add-one i) ∙ text_last (records_to widths records i) (record_at widths records i) in
+    ap (λ (k : ℕ). text_of (records_to widths records k)) (add-one i) ∙ text_last (records_to widths records i) (line_of widths (record_at records i)) in
     record {
       within = omega arith;
       long = long ∙ f.long;

@@ -1,14 +1,15 @@
 -- The widths of a sheet's kinds, from its K lines: after any other line no K line comes. Assumes nothing.
-use mathlib.Core.Path.{◌≡◌, sym, subst, ap, ◌∙◌}
+use mathlib.Core.Path.{◌≡◌, refl, sym, subst, ap, ◌∙◌}
 use mathlib.Core.Logic.{◌⊎◌, inl, inr, by_cases}
 use mathlib.Core.Bool.{true, false≢true}
 use mathlib.Core.List.{List, [], ◌∷◌}
-use Prim.Native.Nat.{ℕ, zero, suc, ◌+◌, ◌*◌, ◌≤◌, ◌<◌}
+use Prim.Native.Nat.{ℕ, zero, suc, ◌+◌, ◌*◌, ◌/◌, ◌≤◌, ◌<◌}
 use native.Mathlib.Decide.{ℕ_discrete}
 use native.Mathlib.Omega.{arith}
 use borrow.Author.Tests.{ne_eqb}
 use lib.ListN.{length, get_or, set}
-use lib.Seq.{drop-cons}
+use lib.Seq.{drop-cons, get_or-take, get_or-drop}
+use Rattle.std.specs.Simd.{first_chunks}
 use Rattle.sheet.specs.Line.{K, B, H, R, Line, well_formed}
 use Rattle.sheet.specs.Sheet.{in_place, width_of, refusal, Continues, IsSheet}
 use Rattle.sheet.proofs.FormLaws.{letter_cases}
@@ -18,6 +19,7 @@ use Rattle.rules.specs.Table.{SheetHeld, lines_in}
 use Rattle.rules.proofs.SheetLaws.{no_line, line_no, lines_before, continues_at, line_fits_at, held_lines, size_held}
 use Rattle.rules.proofs.PartLaws.{zeros}
 use Rattle.rules.proofs.RowLaws.{Reading, reading_begun, read_kind, read_row, read_other}
+use Rattle.report.proofs.Filling.{part_at}
 use Rattle.listing.specs.Inner.Records.{WidthsOf}
 
 letter_some : (l : Line) → well_formed l ≡ true → l.letter ≡ 0 → ⊥
@@ -78,6 +80,12 @@ line_small ls sheet l i =
     subst (λ (x : Line). (x.kind ≤ 64) × (length x.numbers ≤ 6)) e (fits.kind.1, fits.few)
 
 -- ---- the table of widths
+
+-- Line n of the lines that are whole, eight numbers each, has its numbers.
+pub eight_at : (numbers : List ℕ) (whole : List (List ℕ)) → whole ≡ first_chunks 8 (length numbers / 8) numbers → (n : ℕ) → n < length numbers / 8 → (k : ℕ) → k < 8
+    → get_or (get_or whole n []) k 0 ≡ get_or numbers (8 * n + k) 0
+eight_at numbers whole are n h k low =
+    rw (are, part_at 8 (length numbers / 8) numbers n h, get_or-take, get_or-drop) refl
 
 -- The first n lines are read.
 pub record Widening (numbers widths : List ℕ) (n : ℕ) : Type 0 where

@@ -1,12 +1,12 @@
 -- What the carrying program prints for a text. Assumes nothing.
-use Rattle.std.specs.Prelude.{◌≡◌, List, [], ◌∷◌, ◌++◌, map, ℕ, ◌≤◌, ◌<◌, length, drop}
+use Rattle.std.specs.Prelude.{◌≡◌, List, [], ◌∷◌, ◌++◌, map, ℕ, length}
 use Rattle.patterns.specs.Outcome.{Outcome, good, refused}
 use Rattle.sheet.specs.Line.{Line, text_of, lent_of}
 use Rattle.sheet.specs.Read.{read_of}
 use Rattle.carrying.specs.Carrying.{Row}
 use Rattle.carrying.specs.Contract.{Carried, carried, refuses, run, row_line, record_room, CarryMeets}
 use Rattle.report.specs.Lines.{line_text}
-use Rattle.report.specs.Report.{line_limit, refusal_text}
+use Rattle.report.specs.Report.{line_limit, refusal_text, OutputMeets}
 
 -- The letter's byte.
 abbrev pub letter_c : ℕ
@@ -40,8 +40,6 @@ pub data Prints (text printed : List ℕ) : Type 0 where
 abbrev pub listing_limit : ℕ
 listing_limit = 266260
 
--- The contract of `carry_text`, for every text and all lent output: 9 exactly where less is lent than can be printed, and the output is then as it was; otherwise what is printed stands at the front of the output and is counted, and the rest is as it was.
+-- The contract of `carry_text`, for every text and all lent output.
 abbrev pub ListMeets : List ℕ → List ℕ → Outcome ℕ → List ℕ → Type 0
-ListMeets text before (refused number line) after = (length before < listing_limit) × (number ≡ 9) × (line ≡ 0) × (after ≡ before)
-ListMeets text before (good n) after =
-    (listing_limit ≤ length before) × ((printed : List ℕ) × Prints text printed × (n ≡ length printed) × (after ≡ printed ++ drop n before))
+ListMeets text = OutputMeets listing_limit (Prints text)

@@ -1,21 +1,19 @@
 -- Where the bytes of an F line go, and that what stands at the front of the output is right to print. Assumes nothing.
 use mathlib.Core.Path.{◌≡◌, refl, sym, ap, ap₂, ◌∙◌}
 use mathlib.Core.List.{List, [], ◌∷◌, ◌++◌, append_assoc}
-use Prim.Native.Nat.{ℕ, ◌+◌, ◌*◌, ◌≤◌}
+use Prim.Native.Nat.{ℕ, ◌+◌, ◌≤◌}
 use native.Mathlib.Omega.{arith}
-use lib.ListN.{length, set, take, length-append}
+use lib.ListN.{length, set, length-append}
 use lib.Seq.{sets-eq}
 use Rattle.columns.specs.Column.{wide_column, put}
-use Rattle.sheet.specs.Read.{ReadMeets}
-use Rattle.sheet.specs.declared.ReadAnswer.TheVariants.{Lines}
 use Rattle.sheet.proofs.PutLaws.{length-put, put_more}
 use Rattle.chase.specs.Judge.{shape_limit}
 use Rattle.growth.specs.Forecast.{Figure, exactly, beyond, Forecast}
 use Rattle.growth.specs.Contract.{Refuses}
-use Rattle.report.specs.Inner.Promises.{SheetLent, Filled}
+use Rattle.report.specs.Report.{Filled}
+use Rattle.report.specs.Inner.Promises.{SheetLent}
 use Rattle.report.proofs.Bounds.{sheet_unrefused}
-use Rattle.report.proofs.Reports.{read_good}
-use Rattle.outlook.specs.Outlook.{letter_f, figure_column, figures_line, Foretells, Prints}
+use Rattle.outlook.specs.Outlook.{letter_f, figure_column, figures_line}
 
 -- ---- the F line
 
@@ -91,8 +89,3 @@ pub refusal_small : (numbers : List ℕ) (n k : ℕ) → SheetLent numbers → R
 refusal_small numbers n k sheet (Refuses.wrong line e) = absurd (sheet_unrefused sheet e)
 refusal_small numbers n k sheet (Refuses.many lines e m) = (omega arith, refl)
 refusal_small numbers n k sheet (Refuses.endless lines t u) = (omega arith, refl)
-
-pub read_prints : (text before after : List ℕ) → length before ≡ 13104 → (n : ℕ) → ReadMeets text before (Lines n) after
-    → (p : List ℕ) → Foretells (take (8 * n) after) p → Prints text p
-read_prints text before after room n m p j =
-    let g = read_good text before after room n m in Prints.read g.lines g.read (rw g.held_is at j)

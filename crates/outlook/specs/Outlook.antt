@@ -1,5 +1,5 @@
 -- What the forecasting program prints for a text. Assumes nothing.
-use Rattle.std.specs.Prelude.{◌≡◌, List, [], ◌∷◌, ◌++◌, ℕ, ◌≤◌, ◌<◌, length, drop}
+use Rattle.std.specs.Prelude.{◌≡◌, List, [], ◌∷◌, ◌++◌, ℕ}
 use Rattle.patterns.specs.Outcome.{Outcome, good, refused}
 use Rattle.columns.specs.Column.{wide_column}
 use Rattle.sheet.specs.Line.{Line, lent_of}
@@ -7,7 +7,7 @@ use Rattle.sheet.specs.Read.{read_of}
 use Rattle.chase.specs.Judge.{shape_limit}
 use Rattle.growth.specs.Forecast.{Figure, exactly, beyond, Forecast}
 use Rattle.growth.specs.Contract.{Foretold, foretold, refuses, ForecastMeets}
-use Rattle.report.specs.Report.{line_limit, refusal_text}
+use Rattle.report.specs.Report.{line_limit, refusal_text, OutputMeets}
 
 -- The letter's byte.
 abbrev pub letter_f : ℕ
@@ -42,8 +42,6 @@ pub data Prints (text printed : List ℕ) : Type 0 where
 abbrev pub outlook_limit : ℕ
 outlook_limit = 38
 
--- The contract of `forecast_text`, for every text and all lent output: 9 exactly where less is lent than can be printed, and the output is then as it was; otherwise what is printed stands at the front of the output and is counted, and the rest is as it was.
+-- The contract of `forecast_text`, for every text and all lent output.
 abbrev pub OutlookMeets : List ℕ → List ℕ → Outcome ℕ → List ℕ → Type 0
-OutlookMeets text before (refused number line) after = (length before < outlook_limit) × (number ≡ 9) × (line ≡ 0) × (after ≡ before)
-OutlookMeets text before (good n) after =
-    (outlook_limit ≤ length before) × ((printed : List ℕ) × Prints text printed × (n ≡ length printed) × (after ≡ printed ++ drop n before))
+OutlookMeets text = OutputMeets outlook_limit (Prints text)

@@ -4,7 +4,7 @@ use mathlib.Core.Bool.{cond}
 use mathlib.Core.Logic.{◌⊎◌, inl, inr, by_cases}
 use mathlib.Core.List.{List, [], ◌∷◌, ◌++◌}
 use Prim.Native.Nat.{ℕ, zero, suc, ◌+◌, ◌-◌, ◌*◌, ◌/◌, ◌<◌, ◌≤◌}
-use native.Mathlib.Nat.{add-zero, add_assoc, zero-add, add-suc, suc-add}
+use native.Mathlib.Nat.{add-zero, zero-add, add-suc, suc-add}
 use native.Mathlib.Omega.{arith}
 use native.Mathlib.Decide.{dec_le}
 use borrow.Author.Tests.{le-leb, lt-leb}
@@ -13,7 +13,7 @@ use lib.ListN.{length, get_or, take, drop, length-append, get_or-eq_default}
 use lib.Seq.{take_at, drop-append-add}
 use Rattle.patterns.specs.Outcome.{padded}
 use Rattle.patterns.specs.Pattern.{patterns, digits_of, rows, pattern_table, digits_in}
-use Rattle.patterns.proofs.ListLaws.{length-padded, numbers-from}
+use Rattle.patterns.proofs.ListLaws.{length-padded}
 use Rattle.patterns.proofs.PatternRank.{count, ways, first}
 
 rows_row : (ps : List (List ℕ)) (k : ℕ) → k < length ps → take 6 (drop (6 * k) (rows ps)) ≡ padded 6 (get_or ps k [])
@@ -99,8 +99,3 @@ first_table = entries first 0 7
 pub first_at : (n : ℕ) → n < 7 → get_or first_table n 0 ≡ first n
 unfolding first_table
 first_at n h = entry first 7 n 0 h
-
-pub six_at : (l : List ℕ) (at : ℕ) → at + 6 ≤ length l
-    → get_or l at 0 ∷ get_or l (at + 1) 0 ∷ get_or l (at + 2) 0 ∷ get_or l (at + 3) 0 ∷ get_or l (at + 4) 0 ∷ get_or l (at + 5) 0 ∷ []
-    ≡ take 6 (drop at l)
-six_at l at h = sym (numbers-from l at 6 h ∙ simp add_assoc)

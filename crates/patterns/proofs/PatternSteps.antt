@@ -1,44 +1,53 @@
 -- What the loops of `patterns` keep, and one law for each event. Assumes nothing.
 use mathlib.Core.Path.{◌≡◌, refl, sym, ◌∙◌, ap, subst}
+use mathlib.Core.Bool.{Bool, true, false, cond, not}
+use borrow.Author.Tests.{eq-eqb, ne_eqb, ltb-false}
+use lib.Dec.{ltb}
 use mathlib.Core.List.{List, [], ◌∷◌}
-use Prim.Native.Nat.{ℕ, suc, ◌+◌, ◌-◌, ◌*◌, ◌<◌, ◌≤◌, max}
+use Prim.Native.Nat.{ℕ, zero, suc, ◌+◌, ◌-◌, ◌*◌, ◌<◌, ◌≤◌, max}
 use native.Mathlib.Decide.{ℕ_discrete}
 use native.Mathlib.Numerals.{add-one}
 use native.Mathlib.Omega.{arith}
 use borrow.Author.Count.{below_none, below_more}
-use lib.ListN.{length, get_or, drop, set, replicate, length-set, length-drop, drop_of_length-le}
-use lib.Seq.{drop-cons, get_or-set_same, get_or-set_other}
-use Rattle.patterns.specs.Pattern.{index, add, pattern, none_at, Label-discrete, labels, number_of}
+use lib.ListN.{length, get_or, take, drop, set, replicate, length-set, length-drop, drop_of_length-le}
+use lib.Seq.{length-take-le, drop-cons, get_or-set_same, get_or-set_other}
+use Rattle.std.specs.Prelude.{◌==◌, Some, None}
+use Rattle.std.specs.List.{position, position_or_len}
+use Rattle.std.specs.Option.{unwrap_or}
+use Rattle.patterns.specs.Pattern.{pick, index, add, pattern, none_at, Label-discrete, labels, number_of}
 use Rattle.patterns.proofs.ListLaws.{in_get_or}
-use Rattle.patterns.proofs.PatternLaws.{index-le, index_here, index_next, index_first, get_or-index, length-add, index-add_other, digits_from, pattern_from, length-pattern, get_or-pattern}
+use Rattle.patterns.proofs.PatternLaws.{index-le, index_first, get_or-index, length-add, index-add_other, digits_from, pattern_from, length-pattern, get_or-pattern}
 use Rattle.patterns.proofs.LabelLaws.{given_place}
 use Rattle.patterns.proofs.PatternRank.{ways, first, rank_from, rank_from_grows, placed, has-pattern}
 
--- THE SEARCH for the first field that equals field i, a label: none of those before `place` does.
-pub record Searched (xs : List ℕ) (i place : ℕ) : Type 0 where
-  pub within : place ≤ i
-  pub left : index ℕ_discrete (get_or xs i 0) xs ≡ place + index ℕ_discrete (get_or xs i 0) (drop place xs)
+-- THE SEARCH for the first field that equals field i, a label: among those before it, and it itself where none of them does.
+passed_over : (x i : ℕ) (xs : List ℕ) → i < length xs → get_or xs i 0 ≡ x → position_or_len (λ y. y == x) (take i xs) ≡ index ℕ_discrete x xs
+passed_over x i [] h e = absurd (omega arith)
+passed_over x zero (y ∷ xs) h e = go (ℕ_discrete x y)
+  where
+    go : (t : Dec (x ≡ y)) → 0 ≡ pick t zero (suc (index ℕ_discrete x xs))
+    go (yes p) = refl
+    go (no n) = absurd (n (sym e))
+passed_over x (suc i) (y ∷ xs) h e = go (ℕ_discrete x y) (passed_over x i xs (omega arith) e)
+  where
+    go : (t : Dec (x ≡ y)) → position_or_len (λ z. z == x) (take i xs) ≡ index ℕ_discrete x xs
+        → cond (not (y == x)) (1 + position_or_len (λ z. z == x) (take i xs)) 0 ≡ pick t zero (suc (index ℕ_discrete x xs))
+    go (yes p) ih = rw (eq-eqb y x (sym p))
+    go (no n) ih = rw (ne_eqb y x (λ q. n (sym q))) (omega arith)
 
-pub search_starts : (xs : List ℕ) (i : ℕ) → Searched xs i 0
-search_starts xs i = record { within = omega arith; left = omega arith }
+found_or_last : (i p : ℕ) (t : Bool) → ltb p i ≡ t → p ≤ i → unwrap_or (cond t (Some p) None) i ≡ p
+found_or_last i p true f h = refl
+found_or_last i p false f h = let least = ltb-false p i f in omega arith
 
-module _ {xs : List ℕ} {i place : ℕ} (s : Searched xs i place) (h : i < length xs) where
-  pub search_goes_on : place < i → (get_or xs place 0 ≡ get_or xs i 0 → ⊥) → Searched xs i (place + 1)
-  search_goes_on b n =
-      record {
-        within = omega arith;
-        left = rw add-one (omega (arith, s.left, index_next ℕ_discrete (get_or xs i 0) xs place 0 (omega arith) n));
-      }
+position_place : (x i : ℕ) (xs : List ℕ) → i < length xs → get_or xs i 0 ≡ x → unwrap_or (position (λ y. y == x) (take i xs)) i ≡ index ℕ_discrete x xs
+position_place x i xs h e =
+    let over = passed_over x i xs h e in
+    let most : index ℕ_discrete x xs ≤ i = subst (λ (y : ℕ). index ℕ_discrete y xs ≤ i) e (index_first ℕ_discrete xs i 0 h) in
+    rw (over, length-take-le i xs (omega arith)) (found_or_last i (index ℕ_discrete x xs) (ltb (index ℕ_discrete x xs) i) refl most)
 
-  pub search_ends : (get_or xs i 0 ≡ 0 → ⊥) → get_or xs place 0 ≡ get_or xs i 0
-      → place ≡ index Label-discrete (get_or (labels xs) i (none_at 0)) (labels xs)
-  search_ends n e = omega (arith, index_here ℕ_discrete (get_or xs i 0) xs place 0 (omega arith) e, given_place xs i h n)
-
-  -- Field i equals itself.
-  pub search_ends_there : (get_or xs i 0 ≡ 0 → ⊥) → i ≤ place → i ≡ index Label-discrete (get_or (labels xs) i (none_at 0)) (labels xs)
-  search_ends_there n b =
-      let e : place ≡ i = omega arith in
-      sym e ∙ search_ends n (ap (λ (k : ℕ). get_or xs k 0) e)
+pub place_found : (xs : List ℕ) (i : ℕ) → i < length xs → (get_or xs i 0 ≡ 0 → ⊥)
+    → unwrap_or (position (λ y. y == get_or xs i 0) (take i xs)) i ≡ index Label-discrete (get_or (labels xs) i (none_at 0)) (labels xs)
+place_found xs i h n = position_place (get_or xs i 0) i xs h refl ∙ omega (arith, given_place xs i h n)
 
 -- THE NUMBERING of the first i fields of a record over any type whose equality is decided; z is any element.
 pub record FieldsNumbered {A : Type 0} (d : Discrete A) (z : A) (xs : List A) (i largest number : ℕ) (digits : List ℕ) : Type 0 where

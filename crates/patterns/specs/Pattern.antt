@@ -1,11 +1,9 @@
 -- The pattern of a record, the 278 patterns of one to six fields, and their numbers. Assumes nothing.
-use Rattle.std.specs.Prelude.{◌≡◌, refl, cond, ◌||◌, List, [], ◌∷◌, ◌++◌, map, ℕ, zero, suc, ◌*◌, max, eqb, leb, ltb, length, get_or, take, drop}
+use Rattle.std.specs.Prelude.{◌≡◌, refl, Option, Some, None, cond, ◌||◌, List, [], ◌∷◌, ◌++◌, map, ℕ, zero, suc, ◌*◌, max, eqb, leb, ltb, length, get_or, take, drop}
 use Rattle.std.proofs.lemmas.Bool.{false≢true}
 use Rattle.std.proofs.Math.Decide.{ℕ_discrete}
 use Rattle.patterns.specs.Lists.{numbered}
 use Rattle.patterns.specs.Outcome.{Outcome, good, refused, padded}
-use Rattle.patterns.specs.declared.PatternAnswer.{PatternAnswer}
-use Rattle.patterns.specs.declared.PatternAnswer.TheVariants.{Number, FieldCount}
 
 -- The first of two where something holds, the second where it does not.
 abbrev pub pick : {P A : Type 0} → Dec P → A → A → A
@@ -93,9 +91,9 @@ abbrev pub pattern_of : List ℕ → Outcome ℕ
 pattern_of xs = cond (eqb (length xs) 0 || ltb 6 (length xs)) (refused 10 0) (good (number_of (numbers_pattern xs)))
 
 -- Document 01's numbers for each answer.
-abbrev pub pattern_says : PatternAnswer → Outcome ℕ
-pattern_says (Number n) = good n
-pattern_says FieldCount = refused 10 0
+abbrev pub pattern_says : Option ℕ → Outcome ℕ
+pattern_says (Some n) = good n
+pattern_says None = refused 10 0
 
 -- What `digits` answers: the digits of pattern `number` in six places; all 0 where there is no such pattern.
 unfoldable pub digits_of : ℕ → List ℕ

@@ -1,16 +1,9 @@
 // Patterns: the fields of a record numbered by first appearance.
 #![tactic(auto)]
 
-ghost use Rattle.std.specs.Prelude.{◌≡◌, ◌+◌, ◌<◌, ◌≤◌, T, length, get_or, take, drop};
+ghost use Rattle.std.specs.Prelude.{◌≡◌, ◌==◌, position, ◌+◌, ◌<◌, ◌≤◌, T, length, get_or, take, drop};
 ghost use Rattle.patterns.specs.Pattern.{index, none_at, Label-discrete, labels, pattern_of, pattern_says, digits_of, pattern_table, digits_in};
 ghost use Rattle.patterns.specs.PatternTable.{table_test};
-
-// What pattern answers: the number of the pattern, or that there is no number or more than six.
-#[derive(Drop)]
-pub enum PatternAnswer {
-    Number(usize),
-    FieldCount,
-}
 
 // WAYS[n][m]: in how many ways n more fields can go on after m different ones, where that makes at most five.
 const WAYS: [[u8; 6]; 6] = [
@@ -25,11 +18,11 @@ const WAYS: [[u8; 6]; 6] = [
 // FIRST[n]: the number of the first pattern of n fields.
 const FIRST: [u8; 7] = [1, 1, 2, 4, 9, 24, 76];
 
-// A byte of a table.
-fn size(byte: u8) -> usize
-    ensures { result ≡ byte }
+// The place of the first number that is `field`.
+fn place_of(field: u32, numbers: &[u32]) -> Option<usize>
+    ensures { result ≡ position (λ n. n == field) numbers.now }
 {
-    byte as usize
+    numbers.iter().position(|&n| n == field)
 }
 
 // The place of the first field with the label of field `i`. A 0 is no label: it is equal to no other field.
@@ -41,36 +34,25 @@ fn first_place(numbers: &[u32], i: usize) -> usize
     if field == 0 {
         return i;
     }
-    let mut place: usize = 0;
-    while place < i {
-        if numbers[place] == field {
-            return place;
-        }
-        place += 1;
-    }
-    i
+    place_of(field, &numbers[..i]).unwrap_or(i)
 }
 
-// The number of the pattern of one to six numbers: the number of the first pattern of that length, and for each field as many more as
+// The number of the pattern of one to six numbers, None of no number or more than six: the number of the first pattern of that length, and for each field as many more as
 // there are patterns that part from this one by a lower digit there.
-pub fn pattern(numbers: &[u32]) -> PatternAnswer
+pub fn pattern(numbers: &[u32]) -> Option<usize>
     ensures { pattern_says result ≡ pattern_of numbers.now }
 {
     let n = numbers.len();
-    if n == 0 {
-        return PatternAnswer::FieldCount;
-    }
-    if 6 < n {
-        return PatternAnswer::FieldCount;
+    if n == 0 || 6 < n {
+        return None;
     }
     // A copy before the loop: a constant array is built anew wherever it is named.
     let ways = WAYS;
     let mut digits = [0usize; 6];
     let mut largest: usize = 0;
-    let mut number = size(FIRST[n]);
-    let mut i: usize = 0;
-    while i < n {
-        let each = size(ways[n - 1 - i][largest]);
+    let mut number = usize::from(FIRST[n]);
+    for i in 0..n {
+        let each = usize::from(ways[n - 1 - i][largest]);
         let place = first_place(numbers, i);
         let mut digit = largest + 1;
         if place < i {
@@ -80,9 +62,8 @@ pub fn pattern(numbers: &[u32]) -> PatternAnswer
         }
         digits[i] = digit;
         number += (digit - 1) * each;
-        i += 1;
     }
-    PatternAnswer::Number(number)
+    Some(number)
 }
 
 // The 278 patterns, shorter ones first, then by ascending digits: six places each, 0 past the last digit.
@@ -371,14 +352,9 @@ fn row(table: &[u8], at: usize) -> [u8; 6]
     requires { at + 6 ≤ length table.now }
     ensures { result ≡ take 6 (drop at table.now) }
 {
-    [
-        table[at],
-        table[at + 1],
-        table[at + 2],
-        table[at + 3],
-        table[at + 4],
-        table[at + 5],
-    ]
+    let mut digits = [0; 6];
+    digits.copy_from_slice(&table[at..at + 6]);
+    digits
 }
 
 // The constant, which passes the test of a table of patterns: the checker computes it.
@@ -399,10 +375,7 @@ pub fn pattern_table() -> [u8; 1668]
 pub fn digits_in(table: &[u8], number: usize) -> [u8; 6]
     ensures { result ≡ digits_in table.now number }
 {
-    if number == 0 {
-        return [0; 6];
-    }
-    if table.len() / 6 < number {
+    if number == 0 || table.len() / 6 < number {
         return [0; 6];
     }
     row(table, 6 * (number - 1))

@@ -8,7 +8,7 @@ use Prim.Native.Nat.{ℕ, zero, suc, ◌+◌, ◌≤◌}
 use native.Mathlib.Omega.{arith}
 use lib.Dec.{eqb}
 use lib.ListN.{length, take, drop, length-append}
-use Rattle.patterns.specs.Outcome.{good, refused}
+use Rattle.patterns.specs.Outcome.{refused}
 use Rattle.sheet.specs.Line.{B, R, Line, render, text_of, in_range}
 use Rattle.sheet.specs.Read.{read_of, text_limit}
 use Rattle.sheet.specs.Write.{sheet_held}

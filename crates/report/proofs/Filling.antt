@@ -1,26 +1,27 @@
 -- Where the bytes of lines go: a line's letter, columns and byte 10; one S line after the other. Assumes nothing.
 use mathlib.Core.Path.{◌≡◌, refl, sym, ap, ◌∙◌}
 use mathlib.Core.Bool.{true, false}
+use Rattle.std.specs.Prelude.{Result, Ok, Err}
 use mathlib.Core.List.{List, [], ◌∷◌, ◌++◌, append_assoc, append-nil}
-use Prim.Native.Nat.{ℕ, zero, suc, ◌+◌, ◌-◌, ◌*◌, ◌≤◌}
-use native.Mathlib.Nat.{add_assoc}
+use Prim.Native.Nat.{ℕ, zero, suc, ◌+◌, ◌-◌, ◌*◌, ◌<◌, ◌≤◌}
+use native.Mathlib.Nat.{add_comm, mul-zero, mul-suc}
 use native.Mathlib.Numerals.{add-one}
 use native.Mathlib.Omega.{arith}
 use lib.Dec.{ltb}
 use borrow.Author.Tests.{le-ltb}
 use lib.ListN.{length, get_or, take, drop, set, length-append, length-drop}
+use Rattle.std.specs.Simd.{first_chunks}
 use lib.Seq.{take-length, length-take-le, drop-drop}
 use Rattle.columns.specs.Column.{put}
 use Rattle.patterns.specs.Outcome.{Outcome, good, refused, counted}
-use Rattle.patterns.proofs.ListLaws.{numbers-from}
 use Rattle.sheet.specs.Line.{columns, in_range}
 use Rattle.sheet.proofs.Lines.{length-columns}
 use Rattle.sheet.proofs.PutLaws.{put_more, ended-put}
 use Rattle.report.specs.Lines.{line_text, put_of, put_says, held_at, PutMeets}
 use Rattle.chase.specs.Judge.{Verdict, judged}
 use Rattle.report.specs.Report.{letter_v, letter_s, verdict_numbers, step_lines, judgement_text}
-use Rattle.report.specs.declared.PutAnswer.{PutAnswer}
-use Rattle.report.specs.declared.PutAnswer.TheVariants.{Bytes, NumberTooLarge, TextShort}
+use Rattle.report.specs.declared.PutRefusal.{PutRefusal}
+use Rattle.report.specs.declared.PutRefusal.TheVariants.{NumberTooLarge, TextShort}
 
 -- ---- a line
 
@@ -39,33 +40,43 @@ line_put ns letter t at room =
 
 module _ (letter : ℕ) (ns before : List ℕ) (at : ℕ) where
   -- By what is put.
-  answered : (o : Outcome (List ℕ)) (answer : PutAnswer) (after : List ℕ) → put_of letter ns (length before - at) ≡ o → put_says answer ≡ counted o
+  answered : (o : Outcome (List ℕ)) (answer : Result ℕ PutRefusal) (after : List ℕ) → put_of letter ns (length before - at) ≡ o → put_says answer ≡ counted o
       → after ≡ held_at at o before → PutMeets letter ns before at answer after
   answered o answer after e s t = record { says = s ∙ sym (ap counted e); text = t ∙ sym (ap (λ (p : Outcome (List ℕ)). held_at at p before) e) }
 
-  pub put_too_large : in_range ns ≡ false → PutMeets letter ns before at NumberTooLarge before
+  pub put_too_large : in_range ns ≡ false → PutMeets letter ns before at (Err NumberTooLarge) before
   unfolding put_of
-  put_too_large r = answered (refused 8 0) NumberTooLarge before (rw r refl) refl refl
+  put_too_large r = answered (refused 8 0) (Err NumberTooLarge) before (rw r refl) refl refl
 
-  pub put_short : in_range ns ≡ true → ltb (length before - at) (9 * length ns + 2) ≡ true → PutMeets letter ns before at TextShort before
+  pub put_short : in_range ns ≡ true → ltb (length before - at) (9 * length ns + 2) ≡ true → PutMeets letter ns before at (Err TextShort) before
   unfolding put_of
-  put_short r s = answered (refused 9 0) TextShort before (rw r (rw (length-line_text letter ns) (rw s refl))) refl refl
+  put_short r s = answered (refused 9 0) (Err TextShort) before (rw r (rw (length-line_text letter ns) (rw s refl))) refl refl
 
   fits : in_range ns ≡ true → ltb (length before - at) (9 * length ns + 2) ≡ false → put_of letter ns (length before - at) ≡ good (line_text letter ns)
   unfolding put_of
   fits r s = rw r (rw (length-line_text letter ns) (rw s refl))
 
   pub put_good : (after : List ℕ) → in_range ns ≡ true → ltb (length before - at) (9 * length ns + 2) ≡ false → after ≡ put before at (line_text letter ns)
-      → PutMeets letter ns before at (Bytes (9 * length ns + 2)) after
+      → PutMeets letter ns before at (Ok (9 * length ns + 2)) after
   put_good after r s q =
-      answered (good (line_text letter ns)) (Bytes (9 * length ns + 2)) after (fits r s) (ap good (sym (length-line_text letter ns))) q
+      answered (good (line_text letter ns)) (Ok (9 * length ns + 2)) after (fits r s) (ap good (sym (length-line_text letter ns))) q
 
   -- Numbers that have columns are put where there is room.
-  pub put-fits : (answer : PutAnswer) (after : List ℕ) → PutMeets letter ns before at answer after → in_range ns ≡ true → at + 9 * length ns + 2 ≤ length before
+  pub put-fits : (answer : Result ℕ PutRefusal) (after : List ℕ) → PutMeets letter ns before at answer after → in_range ns ≡ true → at + 9 * length ns + 2 ≤ length before
       → after ≡ put before at (line_text letter ns)
   put-fits answer after m r room =
       let s = le-ltb (length before - at) (9 * length ns + 2) (omega arith) in
       m.text ∙ ap (λ (o : Outcome (List ℕ)). held_at at o before) (fits r s)
+
+  -- and this is answered.
+  pub put_ok : (answer : Result ℕ PutRefusal) (after : List ℕ) → PutMeets letter ns before at answer after → in_range ns ≡ true → at + 9 * length ns + 2 ≤ length before
+      → answer ≡ Ok (9 * length ns + 2)
+  put_ok answer after m r room = go answer (m.says ∙ ap counted (fits r (le-ltb (length before - at) (9 * length ns + 2) (omega arith))))
+    where
+      go : (a : Result ℕ PutRefusal) → put_says a ≡ good (length (line_text letter ns)) → a ≡ Ok (9 * length ns + 2)
+      go (Ok n) e = let size = length-line_text letter ns in cc
+      go (Err NumberTooLarge) e = cc
+      go (Err TextShort) e = cc
 
 -- ---- the lines of steps
 
@@ -96,10 +107,12 @@ length-step_lines (suc k) ns h =
       length-step_lines k (drop 5 ns) (omega (arith, length-drop 5 ns)),
     )
 
--- The five numbers from a place on.
-pub five-at : (l : List ℕ) (at : ℕ) → at + 5 ≤ length l
-    → take 5 (drop at l) ≡ get_or l at 0 ∷ get_or l (at + 1) 0 ∷ get_or l (at + 2) 0 ∷ get_or l (at + 3) 0 ∷ get_or l (at + 4) 0 ∷ []
-five-at l at h = numbers-from l at 5 h ∙ simp add_assoc
+-- Part n of a list that is cut into parts of w.
+pub part_at : (w k : ℕ) (xs : List ℕ) (n : ℕ) → n < k → get_or (first_chunks w k xs) n [] ≡ take w (drop (w * n) xs)
+part_at w zero xs n h = absurd (omega arith)
+part_at w (suc k) xs zero h = rw mul-zero refl
+part_at w (suc k) xs (suc n) h =
+    part_at w k (drop w xs) n (omega arith) ∙ ap (take w) (drop-drop (w * n) w xs ∙ ap (λ (j : ℕ). drop j xs) (sym (mul-suc w n ∙ add_comm (w * n) w)))
 
 -- One S line more in the text.
 pub step_put : (t : List ℕ) (k : ℕ) (ns five : List ℕ) → five ≡ take 5 (drop (5 * k) ns) → 5 * (k + 1) ≤ length ns → 74 + 47 * (k + 1) ≤ length t

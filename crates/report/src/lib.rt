@@ -1,128 +1,89 @@
 // What the programs print: lines in the sheet's column form, and the whole output of the judging program.
 #![tactic(auto)]
 
-ghost use Rattle.std.specs.Prelude.{◌≡◌, true, [], ◌∷◌, ◌+◌, ◌-◌, ◌*◌, ◌≤◌, ltb, length, take, drop};
+ghost use Rattle.std.specs.Prelude.{◌≡◌, true, List, [], ◌∷◌, ◌+◌, ◌-◌, ◌*◌, ◌≤◌, ltb, nat_le, length, take, drop};
+ghost use Rattle.std.specs.List.{list_all};
 ghost use Rattle.columns.specs.Column.{put};
-ghost use Rattle.sheet.specs.Line.{in_range};
+ghost use Rattle.patterns.specs.Outcome.{good};
+ghost use Rattle.sheet.specs.Line.{Line, lent_of, in_range};
+ghost use Rattle.sheet.specs.Read.{read_of};
 ghost use Rattle.chase.specs.Judge.{judged};
 ghost use Rattle.judging.specs.Answer.{verdict_of};
 ghost use Rattle.report.specs.Lines.{line_text, PutMeets};
-ghost use Rattle.report.specs.Report.{letter_n, verdict_numbers, step_lines, judgement_text, report_says, Judges, Prints, ReportMeets};
-ghost use Rattle.report.specs.Inner.Promises.{SheetLent, Filled};
+ghost use Rattle.report.specs.Report.{letter_n, verdict_numbers, step_lines, refusal_text, judgement_text, Filled, line_limit, TakesLines, TellsLines, TextPrinted, report_says, Judges, ReportMeets};
+ghost use Rattle.report.specs.Inner.Promises.{SheetLent, LinesRead};
 
-use judging::{Figures, JudgeAnswer};
-use sheet::ReadAnswer;
+use judging::{Figures, Verdict};
+use sheet::RefusalNumbers;
 
-// What putting a line answers.
-#[derive(Drop)]
-pub enum PutAnswer {
-    // So many bytes were put.
-    Bytes(usize),
+// Why a line is not put.
+#[derive(Clone, Copy)]
+pub enum PutRefusal {
     // A number is over 99,999,999.
     NumberTooLarge,
     // The line does not fit.
     TextShort,
 }
 
-// What filling the output answers.
-#[derive(Drop)]
-pub enum ReportAnswer {
-    // So many bytes are to be printed.
-    Bytes(usize),
-    // The lent output is shorter than the longest that can be printed.
-    OutputShort,
-}
-
-// Room for as many lines as the longest text can have: 1,638.
-pub fn room_for_lines() -> [u32; 13104]
-    ensures { length result ≡ 13104 }
-{
-    [0; 13104]
-}
-
-// Room for 4,096 steps.
-fn room_for_steps() -> [u16; 20480]
-    ensures { length result ≡ 20480 }
-{
-    [0; 20480]
-}
-
-// Puts a line that fits at `at`.
+// Puts a line where there is room for it.
 fn fill_line(letter: u8, numbers: &[usize], text: &mut [u8], at: usize)
     requires { (in_range numbers.now ≡ true) × (at + 9 * length numbers.now + 2 ≤ length text.old) }
     ensures { text.new ≡ put text.old at (line_text letter numbers.now) }
 {
     text[at] = letter;
-    let mut c: usize = 0;
-    while c < numbers.len() {
-        columns::put(text, at + 9 * c + 1, numbers[c] as u32);
-        c += 1;
+    for (c, &number) in numbers.iter().enumerate() {
+        columns::put(text, at + 9 * c + 1, number as u32);
     }
     text[at + 9 * numbers.len() + 1] = 10;
 }
 
 // Whether all numbers have columns.
 fn in_range(numbers: &[usize]) -> bool
-    ensures { result ≡ in_range numbers.now }
+    ensures { result ≡ list_all (λ n. nat_le n 99999999) numbers.now }
 {
-    let mut i: usize = 0;
-    while i < numbers.len() {
-        if 99999999 < numbers[i] {
-            return false;
-        }
-        i += 1;
-    }
-    true
+    numbers.iter().all(|&number| number <= 99999999)
 }
 
 // Whether a line with so many columns does not fit after the first `at` of so many bytes.
 fn is_short(size: usize, at: usize, count: usize) -> bool
     ensures { result ≡ ltb (size - at) (9 * count + 2) }
 {
-    if size < at {
-        return true;
-    }
-    let room = size - at;
-    if room < 2 {
-        return true;
-    }
-    (room - 2) / 9 < count
+    let room = size.saturating_sub(at);
+    room < 2 || (room - 2) / 9 < count
 }
 
-// Puts a line into lent text at `at`: its letter, the numbers in columns, byte 10. A good call changes the bytes that it counts and nothing else; a refusal changes nothing.
-pub fn put_line(letter: u8, numbers: &[usize], text: &mut [u8], at: usize) -> PutAnswer
+// Puts a line into lent text at `at`: its letter, the numbers in columns, byte 10. Says how many bytes were put: these change and nothing else does; a refusal changes nothing.
+pub fn put_line(
+    letter: u8,
+    numbers: &[usize],
+    text: &mut [u8],
+    at: usize,
+) -> Result<usize, PutRefusal>
     ensures { PutMeets letter numbers.now text.old at result text.new }
 {
     if !in_range(numbers) {
-        return PutAnswer::NumberTooLarge;
+        return Err(PutRefusal::NumberTooLarge);
     }
     if is_short(text.len(), at, numbers.len()) {
-        return PutAnswer::TextShort;
+        return Err(PutRefusal::TextShort);
     }
     fill_line(letter, numbers, text, at);
-    PutAnswer::Bytes(9 * numbers.len() + 2)
+    Ok(9 * numbers.len() + 2)
 }
 
 // Puts a refusal at the front of lent text: N, its number and line. It has 20 bytes.
-pub fn put_refusal(number: usize, line: usize, text: &mut [u8]) -> PutAnswer
+pub fn put_refusal(number: usize, line: usize, text: &mut [u8]) -> Result<usize, PutRefusal>
     ensures { PutMeets letter_n (number ∷ line ∷ []) text.old 0 result text.new }
 {
     let numbers = [number, line];
     put_line(b'N', &numbers, text, 0)
 }
 
-// The five numbers at `at`.
-fn step_at(steps: &[u16], at: usize) -> [usize; 5]
-    requires { at + 5 ≤ length steps.now }
-    ensures { (result ≡ take 5 (drop at steps.now)) × (in_range result ≡ true) }
+// The five numbers of a step.
+fn numbers_of(step: &[u16; 5]) -> [usize; 5]
+    ensures { (result ≡ step.now) × (in_range result ≡ true) }
 {
-    [
-        steps[at] as usize,
-        steps[at + 1] as usize,
-        steps[at + 2] as usize,
-        steps[at + 3] as usize,
-        steps[at + 4] as usize,
-    ]
+    step.map(usize::from)
 }
 
 // Puts the lines of the first `count` steps after the V line, which has 74 bytes.
@@ -130,11 +91,9 @@ fn fill_steps(steps: &[u16], count: usize, text: &mut [u8])
     requires { (5 * count ≤ length steps.now) × (74 + 47 * count ≤ length text.old) }
     ensures { text.new ≡ put text.old 74 (step_lines count steps.now) }
 {
-    let mut k: usize = 0;
-    while k < count {
-        let numbers = step_at(steps, 5 * k);
+    for (k, step) in steps.as_chunks::<5>().0[..count].iter().enumerate() {
+        let numbers = numbers_of(step);
         fill_line(b'S', &numbers, text, 74 + 47 * k);
-        k += 1;
     }
 }
 
@@ -164,43 +123,51 @@ fn report_lines(lines: &[u32], text: &mut [u8]) -> usize
     requires { SheetLent lines.now × (192586 ≤ length text.old) }
     ensures { Filled (Judges lines.now) text.old result text.new }
 {
-    let mut steps = room_for_steps();
+    let mut steps = [0; 20480];
     match judging::judge(lines, &mut steps) {
-        JudgeAnswer::Settles(f) => fill_verdict(1, f, &steps, text),
-        JudgeAnswer::Endless(f) => fill_verdict(2, f, &steps, text),
-        JudgeAnswer::Refused(refusal) => {
+        Ok(Verdict::Settles(f)) => fill_verdict(1, f, &steps, text),
+        Ok(Verdict::Endless(f)) => fill_verdict(2, f, &steps, text),
+        Err(refusal) => {
             let said = judging::refusal_numbers(refusal);
-            put_refusal(said.number, said.line, text);
-            20
+            put_refusal(said.number, said.line, text).unwrap()
         }
     }
 }
 
-// Reads a text, judges it and puts what is to be printed; says how many bytes it has.
-fn report(text: &[u8], output: &mut [u8]) -> usize
-    requires { 192586 ≤ length output.old }
-    ensures { Filled (Prints text.now) output.old result output.new }
+// Reads a text's lines, as many as the longest can have; says how many numbers they are.
+fn read_lines(text: &[u8], lines: &mut [u32; 13104]) -> Result<usize, RefusalNumbers>
+    ensures { LinesRead text.now result lines.new }
 {
-    let mut lines = room_for_lines();
-    match sheet::read(text, &mut lines) {
-        ReadAnswer::Lines(count) => {
-            let used = 8 * count;
-            report_lines(&lines[..used], output)
-        }
-        ReadAnswer::Refused(refusal) => {
-            let said = sheet::refusal_numbers(refusal);
-            put_refusal(said.number as usize, said.line, output);
-            20
-        }
+    match sheet::read(text, lines) {
+        Ok(count) => Ok(8 * count),
+        Err(refusal) => Err(sheet::refusal_numbers(refusal)),
     }
 }
 
-// Reads a text, judges it and fills the output with what the judging program prints. Of lent output that is long enough only the bytes that the answer counts are changed; otherwise nothing is.
-pub fn judge_text(text: &[u8], output: &mut [u8]) -> ReportAnswer
+// Reads a text and fills the output with what `tell` puts of its lines, or with the reading's refusal: so many bytes, or none where less is lent than `limit`. Of lent output that is long enough only the bytes that the answer counts are changed; otherwise nothing is.
+pub fn print_text<F: FnOnce(&[u32], &mut [u8]) -> usize>(
+    text: &[u8],
+    output: &mut [u8],
+    limit: usize,
+    tell: F,
+) -> Option<usize>
+    requires room { 20 ≤ limit }
+    requires tells { limit ≤ length output.old → (lines : List Line) → read_of text.now line_limit ≡ good lines → TakesLines F.FnOnce tell (lent_of lines) output.old }
+    ensures { TextPrinted (λ numbers size. TellsLines F.FnOnce tell numbers output.old size output.new) limit text.now output.old result output.new }
+{
+    if output.len() < limit {
+        return None;
+    }
+    let mut lines = [0; 13104];
+    Some(match read_lines(text, &mut lines) {
+        Ok(used) => tell(&lines[..used], output),
+        Err(said) => put_refusal(said.number, said.line, output).unwrap(),
+    })
+}
+
+// Reads a text, judges it and fills the output with what the judging program prints: so many bytes, or none where less is lent than can be printed. Of lent output that is long enough only the bytes that the answer counts are changed; otherwise nothing is.
+pub fn judge_text(text: &[u8], output: &mut [u8]) -> Option<usize>
     ensures { ReportMeets text.now output.old (report_says result) output.new }
 {
-    if output.len() < 192586 {
-        return ReportAnswer::OutputShort;
-    }
-    ReportAnswer::Bytes(report(text, output))
+    print_text(text, output, 192586, report_lines)
 }

@@ -14,7 +14,7 @@ use Rattle.sheet.specs.Line.{K, B, H, R, Line, well_formed, known, in_range, for
 use Rattle.patterns.specs.Outcome.{padded}
 use Rattle.sheet.specs.Sheet.{letter_before, in_place, kind_before, width_of, kind_right, marks_from, marks_right, mark_before, lines_with, heads_before, room_for, refusal, Continues, IsSheet}
 use Rattle.patterns.proofs.ListLaws.{length-padded}
-use Rattle.sheet.proofs.FormLaws.{form-says, take-padded}
+use Rattle.sheet.proofs.FormLaws.{known_columns, take-padded}
 use Rattle.sheet.proofs.Lines.{length-lent}
 use Rattle.sheet.proofs.Sheets.{refusal_passes, sheet_held_is, length-lent_of}
 use Rattle.chase.specs.Lists.{All}
@@ -39,11 +39,9 @@ pub record LineFits (before : List Line) (l : Line) : Type 0 where
 formed_numbers : (l : Line) → well_formed l ≡ true → (1 ≤ length l.numbers) × (length l.numbers ≤ 6)
 unfolding well_formed
 formed_numbers l e =
-    let says = form-says l.letter (suc (length l.numbers)) ((and-eq-true_iff (known (form_of_line l)) (in_range (l.kind ∷ l.numbers))).0 e).0 in
-    let c = says.columns in
-    let s = says.some in
-    let f = says.few in
-    (omega arith, omega arith)
+    let known_here = ((and-eq-true_iff (known (form_of_line l)) (in_range (l.kind ∷ l.numbers))).0 e).0 in
+    let c = known_columns l.letter (suc (length l.numbers)) known_here in
+    (omega (arith, c.0), omega (arith, c.1))
 
 marks_each : (m : ℕ) (ns : List ℕ) → marks_from m ns ≡ true → All (λ n. (1 ≤ n) × (n ≤ 12)) ns
 marks_each m [] e = tt

@@ -4,7 +4,7 @@ use mathlib.Core.Logic.{◌⊎◌, inl, inr}
 use mathlib.Core.Bool.{Bool, true, false, cond}
 use mathlib.Core.List.{List, [], ◌∷◌, ◌++◌, append_assoc, append-nil}
 use mathlib.Core.Option.{some}
-use Prim.Native.Nat.{ℕ, zero, suc, ◌+◌, ◌-◌, ◌*◌, ◌≤◌, ◌<◌}
+use Prim.Native.Nat.{ℕ, zero, suc, ◌+◌, ◌-◌, ◌*◌, ◌/◌, ◌≤◌, ◌<◌}
 use native.Mathlib.Numerals.{add-one}
 use native.Mathlib.Omega.{arith}
 use borrow.Author.Count.{below_more}
@@ -250,7 +250,7 @@ module _ {numbers table : List ℕ} {count n : ℕ} (held : SheetHeld numbers) (
         table_count table count,
       )
 
-  pub filled_end : length numbers ≤ 8 * n → TableFits table count × (table_rules table count ≡ rules_in numbers)
+  pub filled_end : length numbers / 8 ≤ n → TableFits table count × (table_rules table count ≡ rules_in numbers)
   filled_end h =
       let none : rules_of (drop n (lines_in numbers)) ≡ [] = ap rules_of (drop_of_length-le (lines_in numbers) {i = n} (omega (arith, size_held held))) in (
         record { size = f.size; few = omega (arith, filled_count); each = f.each },

@@ -13,11 +13,10 @@ use Rattle.sheet.specs.Write.{sheet_held, fits, written, write_of, write_says}
 use Rattle.sheet.specs.Answer.{refusal_says}
 use Rattle.sheet.specs.declared.Refusal.{Refusal}
 use Rattle.sheet.specs.declared.Refusal.TheVariants.{TextTooLong, FormWrong, OutOfPlace, KindWrong, MarkWrong, OneTooMany, LinesShort, LineWrong, TextShort}
-use Rattle.sheet.specs.declared.WriteAnswer.{WriteAnswer}
-use Rattle.sheet.specs.declared.WriteAnswer.TheVariants.{Bytes, Refused}
+use Rattle.std.proofs.Common.{Result, Ok, Err}
 use Rattle.sheet.proofs.Sheets.{refused≢good}
 use Rattle.sheet.proofs.Refused.{sheet_held_refused, sheet_held-number}
-use Rattle.rules.specs.Inner.Bytes.{FirstWrong}
+use Rattle.rules.specs.Table.{SheetHeld}
 
 abbrev Eight : ℕ → ℕ → Type 0
 Eight n k = (n ≡ 8) × (0 < k)
@@ -42,34 +41,34 @@ fits_not_eight room text line e = go (ltb text_limit (length text)) (ltb room (l
 
 module _ (numbers : List ℕ) (room : ℕ) (says : Outcome ℕ) (e : says ≡ counted (write_of numbers room)) where
   -- Write answers 8: the line is the first wrong one.
-  pub wrong_line : (line : ℕ) → says ≡ refused 8 line → FirstWrong numbers line
+  pub wrong_line : (line : ℕ) → says ≡ refused 8 line → sheet_held numbers ≡ refused 8 line
   unfolding write_of
   wrong_line line p = go (sheet_held numbers) refl (sym e ∙ p)
     where
-      go : (o : Outcome (List Line)) → sheet_held numbers ≡ o → counted (written room o) ≡ refused 8 line → FirstWrong numbers line
+      go : (o : Outcome (List Line)) → sheet_held numbers ≡ o → counted (written room o) ≡ refused 8 line → sheet_held numbers ≡ refused 8 line
       go (good ls) q h = absurd (fits_not_eight room (text_of ls) line h)
       go (refused n k) q h =
           let (a, b) = held_refused numbers n k q in
           let c = refused_number h in
           let d = refused_line h in
-          record { none = λ z. absurd (omega arith); wrong = λ z. q ∙ cc }
+          q ∙ cc
 
   -- Write answers anything else: the lines are a sheet.
-  pub right_lines : ((line : ℕ) → says ≡ refused 8 line → ⊥) → FirstWrong numbers 0
+  pub right_lines : ((line : ℕ) → says ≡ refused 8 line → ⊥) → SheetHeld numbers
   unfolding write_of
   right_lines other = go (sheet_held numbers) refl e
     where
-      go : (o : Outcome (List Line)) → sheet_held numbers ≡ o → says ≡ counted (written room o) → FirstWrong numbers 0
-      go (good ls) q h = record { none = λ z. record { lines = ls; holds = q }; wrong = λ z. absurd (z refl) }
+      go : (o : Outcome (List Line)) → sheet_held numbers ≡ o → says ≡ counted (written room o) → SheetHeld numbers
+      go (good ls) q h = record { lines = ls; holds = q }
       go (refused n k) q h = let (a, b) = held_refused numbers n k q in absurd (other k (h ∙ ap (λ m. refused m k) a))
 
 -- What write's answers mean.
 
-module _ (numbers : List ℕ) (room : ℕ) (answer : WriteAnswer) (e : write_says answer ≡ counted (write_of numbers room)) where
-  pub bytes_right : (n : ℕ) → answer ≡ Bytes n → FirstWrong numbers 0
+module _ (numbers : List ℕ) (room : ℕ) (answer : Result ℕ Refusal) (e : write_says answer ≡ counted (write_of numbers room)) where
+  pub bytes_right : (n : ℕ) → answer ≡ Ok n → SheetHeld numbers
   bytes_right n p = right_lines numbers room (write_says answer) e (λ line q. refused≢good (sym q ∙ ap write_says p))
 
-  pub refusal_wrong : (r : Refusal) (line : ℕ) → answer ≡ Refused r → r ≡ LineWrong line → FirstWrong numbers line
+  pub refusal_wrong : (r : Refusal) (line : ℕ) → answer ≡ Err r → r ≡ LineWrong line → sheet_held numbers ≡ refused 8 line
   refusal_wrong r line p q = wrong_line numbers room (write_says answer) e line (ap write_says p ∙ ap refusal_says q)
 
   eight_line : (r : Refusal) (line : ℕ) → ◌≡◌ {A = Outcome ℕ} (refusal_says r) (refused 8 line) → r ≡ LineWrong line
@@ -83,6 +82,6 @@ module _ (numbers : List ℕ) (room : ℕ) (answer : WriteAnswer) (e : write_say
   eight_line (LineWrong l) line q = ap LineWrong (refused_line q)
   eight_line TextShort line q = let z = refused_number q in absurd (omega arith)
 
-  pub refusal_right : (r : Refusal) → answer ≡ Refused r → ((line : ℕ) → r ≡ LineWrong line → ⊥) → FirstWrong numbers 0
+  pub refusal_right : (r : Refusal) → answer ≡ Err r → ((line : ℕ) → r ≡ LineWrong line → ⊥) → SheetHeld numbers
   refusal_right r p other =
       right_lines numbers room (write_says answer) e (λ line q. other line (eight_line r line (sym (ap write_says p) ∙ q)))

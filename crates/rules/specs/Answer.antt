@@ -1,10 +1,10 @@
 -- The whole contract of `rules_of`, for all lent lines and every lent table. Assumes nothing.
-use Rattle.std.specs.Prelude.{◌≡◌, List, ℕ, ◌≤◌, ◌<◌, length, take, drop}
+use Rattle.std.specs.Prelude.{◌≡◌, Result, Ok, Err, List, ℕ, ◌≤◌, ◌<◌, length, take, drop}
 use Rattle.patterns.specs.Outcome.{refused}
 use Rattle.sheet.specs.Write.{sheet_held}
 use Rattle.rules.specs.Table.{SheetHeld, rules_in, table_rules, TableFits}
-use Rattle.rules.specs.declared.RulesAnswer.{RulesAnswer}
-use Rattle.rules.specs.declared.RulesAnswer.TheVariants.{Rules, LineWrong, TableShort}
+use Rattle.rules.specs.declared.RulesRefusal.{RulesRefusal}
+use Rattle.rules.specs.declared.RulesRefusal.TheVariants.{LineWrong, TableShort}
 
 -- What is said of lent lines: so many rules, the first wrong line, or that the lent table is too short.
 pub data RulesSaid : Type 0 where
@@ -12,10 +12,10 @@ pub data RulesSaid : Type 0 where
   wrong : ℕ → RulesSaid
   short : RulesSaid
 
-abbrev pub rules_say : RulesAnswer → RulesSaid
-rules_say (Rules count) = rules count
-rules_say (LineWrong line) = wrong line
-rules_say TableShort = short
+abbrev pub rules_say : Result ℕ RulesRefusal → RulesSaid
+rules_say (Ok count) = rules count
+rules_say (Err (LineWrong line)) = wrong line
+rules_say (Err TableShort) = short
 
 -- The bytes of a table: 64 for each of 256 rules.
 abbrev pub table_size : ℕ

@@ -11,7 +11,6 @@ ghost use Rattle.std.specs.Prelude.{◌≡◌, [], ◌∷◌, ◌+◌, ◌*◌, 
 ghost use Rattle.rules.specs.Table.{SheetHeld, lines_in, rules_in, table_rules, MarksFit, HeadFits, RuleFits, TableFits};
 ghost use Rattle.rules.specs.Inner.Bytes.{marks_at, head_at, heads_at, rule_at, LineIn, LinesIn, head_count, line_byte, Blank, Part, mark_byte, place_byte, PlacesFit, sources_with, HeadsPut, RowPut};
 
-use crate::wide;
 use sheet::{LETTER_B, LETTER_H};
 
 // How many H lines stand at line `n` and after it, up to the first line that is none.
@@ -19,14 +18,12 @@ fn heads_at(lines: &[u32], n: usize) -> usize
     requires { SheetHeld lines.now × (n ≤ length (lines_in lines.now)) }
     ensures { result ≡ head_count lines.now n }
 {
-    let mut i = n;
-    while 8 * i < lines.len() {
+    for i in n..lines.len() / 8 {
         if lines[8 * i] != LETTER_H {
             return i - n;
         }
-        i += 1;
     }
-    i - n
+    lines.len() / 8 - n
 }
 
 // Puts the marks of line `n` at byte `at` of a table that is 0 from there on; answers how many.
@@ -34,16 +31,13 @@ fn put_marks(table: &mut [u8], at: usize, lines: &[u32], n: usize) -> usize
     requires { (length table.old ≡ 16384) × (at + 6 ≤ 16384) × LineIn lines.now n × MarksFit (marks_at lines.now n) × Blank table.old at }
     ensures { (result ≡ length (marks_at lines.now n)) × Part table.old at 6 (mark_byte (marks_at lines.now n)) table.new }
 {
-    let mut i: usize = 0;
-    while i < 6 {
-        let mark = lines[8 * n + 2 + i];
+    for (i, &mark) in lines[8 * n + 2..8 * n + 8].iter().enumerate() {
         if mark == 0 {
             return i;
         }
         table[at + i] = mark as u8;
-        i += 1;
     }
-    i
+    6
 }
 
 // Puts line `n` at byte `at` of a table that is 0 from there on: its kind, how many marks it has, its marks. Answers how many.
@@ -62,11 +56,9 @@ fn put_places(table: &mut [u8], at: usize, lines: &[u32], n: usize, count: usize
     requires { (length table.old ≡ 16384) × (at + 21 ≤ 16384) × LineIn lines.now n × MarksFit (marks_at lines.now n) × (count ≡ length (marks_at lines.now n)) × Blank table.old (at + 8) }
     ensures { Part table.old (at + 8) 13 (place_byte (marks_at lines.now n)) table.new }
 {
-    let mut i = count;
-    while 0 < i {
-        let mark = wide::of_u32(lines[8 * n + 1 + i]);
+    for i in (1..=count).rev() {
+        let mark = lines[8 * n + 1 + i] as usize;
         table[at + 8 + mark] = i as u8;
-        i -= 1;
     }
 }
 
@@ -88,11 +80,8 @@ fn put_sources(table: &mut [u8], at: usize, lines: &[u32], n: usize, count: usiz
     requires { (length table.old ≡ 16384) × (at + 28 ≤ 16384) × LineIn lines.now n × MarksFit (marks_at lines.now n) × (count ≡ length (marks_at lines.now n)) × PlacesFit table.old at }
     ensures { Part table.old (at + 21) 7 (sources_with table.old at (marks_at lines.now n)) table.new }
 {
-    let mut i: usize = 0;
-    while i < count {
-        let mark = wide::of_u32(lines[8 * n + 2 + i]);
-        put_source(table, at, mark);
-        i += 1;
+    for &mark in &lines[8 * n + 2..8 * n + 2 + count] {
+        put_source(table, at, mark as usize);
     }
 }
 
@@ -101,12 +90,10 @@ fn put_heads(table: &mut [u8], at: usize, lines: &[u32], n: usize, heads: usize)
     requires { (length table.old ≡ 16384) × (at + 64 ≤ 16384) × LinesIn lines.now (n + 1) heads × RuleFits (rule_at lines.now n heads) × PlacesFit table.old at × Blank table.old (at + 32) }
     ensures { HeadsPut table.old at (heads_at lines.now (n + 1) heads) table.new }
 {
-    let mut h: usize = 0;
-    while h < heads {
+    for h in 0..heads {
         let line = n + 1 + h;
         let count = put_line(table, at + 32 + 8 * h, lines, line);
         put_sources(table, at, lines, line, count);
-        h += 1;
     }
 }
 
@@ -129,14 +116,12 @@ fn put_rules(lines: &[u32], table: &mut [u8]) -> usize
     ensures { TableFits table.new result × (table_rules table.new result ≡ rules_in lines.now) }
 {
     let mut count: usize = 0;
-    let mut n: usize = 0;
-    while 8 * n < lines.len() {
+    for n in 0..lines.len() / 8 {
         if lines[8 * n] == LETTER_B {
             let heads = heads_at(lines, n + 1);
             put_rule(table, count, lines, n, heads);
             count += 1;
         }
-        n += 1;
     }
     count
 }
@@ -145,11 +130,7 @@ fn put_rules(lines: &[u32], table: &mut [u8]) -> usize
 fn clear(table: &mut [u8])
     ensures { (length table.new ≡ length table.old) × Blank table.new 0 }
 {
-    let mut i: usize = 0;
-    while i < table.len() {
-        table[i] = 0;
-        i += 1;
-    }
+    table.fill(0);
 }
 
 // Makes a table of the rules of a sheet's lent lines, whatever the bytes were; answers how many.

@@ -8,7 +8,7 @@ use native.Mathlib.Numerals.{add-one}
 use native.Mathlib.Omega.{arith}
 use borrow.Author.Tests.{eq-eqb, ne_eqb, leb-true}
 use lib.Dec.{eqb, leb}
-use lib.ListN.{length, get_or, take, drop, length-map}
+use lib.ListN.{length, get_or, take, drop, set, length-map}
 use lib.Seq.{take-suc, take_all, take_at, drop-cons}
 use Rattle.patterns.specs.Outcome.{padded}
 use Rattle.patterns.specs.Pattern.{add, add_all}
@@ -24,7 +24,9 @@ use Rattle.rules.specs.Inner.Bytes.{Clear}
 use Rattle.rules.specs.Inner.Rows.{row_numbers}
 use Rattle.rules.proofs.SheetLaws.{no_line, line_no, lines_before, LentLine, lent_line, held_lines, size_held, continues_at}
 use Rattle.rules.proofs.PartLaws.{zeros as blank}
-use Rattle.rules.proofs.RowLaws.{Reading, reading_begun, row_width, row_at, read_row}
+use Rattle.rules.proofs.RowLaws.{Reading, reading_begun, row_width, row_at, read_row, kind_low, read_kind, read_other}
+use Rattle.sheet.proofs.LentLines.{Eight}
+use Rattle.running.proofs.LineLaws.{line_there, number_at, kind_at, letter_at, fields_at}
 use Rattle.carrying.specs.Carrying.{Row, Row-discrete, numbers_in, filled, zeros, filled_rows, row_of, table_rows}
 use Rattle.running.specs.Inner.Held.{packed, unpacked, rows_at, records_fit, Stored, Grown}
 use Rattle.running.specs.Inner.Begun.{RowsIn, Begun}
@@ -275,6 +277,48 @@ module _ {lines before index₀ widths rows index : List ℕ} {by first count ne
             go : Dec (count' ≤ 4096) → length (add_all Row-discrete (filled_rows first (rows_up_to lines (n + 1))) []) ≤ 1024 → count' ≤ 4096
             go (yes l) m = l
             go (no l) m = absurd (omega (arith, m, all.over (omega arith)))
+
+-- Line n, taken with its eight numbers.
+module _ {lines before index₀ widths rows index line : List ℕ} {by first count next n : ℕ} (sheet : SheetHeld lines)
+    (p : Putting lines before index₀ widths rows index by first count next n) (e : Eight lines n line) where
+  is_letter : {x : ℕ} → get_or line 0 0 ≡ x → get_or lines (8 * n) 0 ≡ x
+  is_letter h = sym (letter_at e) ∙ h
+
+  no_letter : {x : ℕ} → (get_or line 0 0 ≡ x → ⊥) → get_or lines (8 * n) 0 ≡ x → ⊥
+  no_letter d h = d (letter_at e ∙ h)
+
+  pub kind_small : get_or line 1 0 ≤ 64
+  kind_small = omega (arith, kind_at e, kind_low lines widths p.row n sheet p.reading (line_there e))
+
+  pub kind_put : get_or line 0 0 ≡ 75 → Putting lines before index₀ (set widths (get_or line 1 0) (get_or line 2 0)) rows index by first count next (n + 1)
+  kind_put h =
+      rw (kind_at e, number_at e 2 (omega arith))
+      (put_other sheet p (line_there e) (λ q. omega (arith, is_letter h, q)) (read_kind lines widths p.row n sheet p.reading (line_there e) (is_letter h)))
+
+  pub passed_put : (get_or line 0 0 ≡ 75 → ⊥) → (get_or line 0 0 ≡ 82 → ⊥) → Putting lines before index₀ widths rows index by first count next (n + 1)
+  passed_put k r =
+      put_other sheet p (line_there e) (no_letter r) (read_other lines widths p.row n sheet p.reading (line_there e) (no_letter k) (no_letter r))
+
+  -- A row, whose kind has this width.
+  module _ (r : get_or line 0 0 ≡ 82) (width : ℕ) (is-width : width ≡ get_or widths (get_or line 1 0) 0) where
+    width_here : width ≡ get_or widths (get_or lines (8 * n + 1) 0) 0
+    width_here = is-width ∙ ap (λ (k : ℕ). get_or widths k 0) (kind_at e)
+
+    pub width_low : width ≤ 6
+    width_low = width_few sheet p (line_there e) (is_letter r) width width_here
+
+    fields : take width (drop 2 line) ≡ row_numbers lines n width
+    fields = fields_at e width width_low
+
+    pub fields_narrow : (k : ℕ) → length (filled k (take width (drop 2 line))) ≤ 6
+    fields_narrow k = omega (arith, ap (λ (ns : List ℕ). length (filled k ns)) fields, row_narrow sheet p (line_there e) (is_letter r) width width_here k)
+
+    pub row_put : {row rows' index' : List ℕ} {count' next' : ℕ} → row ≡ packed (record { kind = get_or line 1 0; numbers = filled next (take width (drop 2 line)) })
+        → next' ≡ next + zeros (take width (drop 2 line)) → Grown rows index by count rows' index' count' (add Row-discrete (unpacked row) (rows_at rows count))
+        → Putting lines before index₀ widths rows' index' by first count' next' (n + 1)
+    row_put is next_is g =
+        put-row sheet p (line_there e) (is_letter r) width width_here (is ∙ (λ i. packed (record { kind = kind_at e i; numbers = filled next (fields i) })))
+        (next_is ∙ ap (λ (ns : List ℕ). next + zeros ns) fields) g
 
 pub put_all : {lines before index₀ widths rows index : List ℕ} {by first count next n : ℕ} → SheetHeld lines → Clear index₀ 24576
     → Putting lines before index₀ widths rows index by first count next n → length lines ≤ 8 * n

@@ -3,9 +3,10 @@ use mathlib.Core.Path.{◌≡◌, refl, sym, ◌∙◌, ap, subst}
 use mathlib.Core.Bool.{false≢true}
 use mathlib.Core.Logic.{◌⊎◌, inl, inr}
 use mathlib.Core.List.{List, ◌++◌, map}
-use Prim.Native.Nat.{ℕ, ◌+◌, ◌*◌, ◌≤◌}
+use Prim.Native.Nat.{ℕ, ◌*◌, ◌≤◌}
 use native.Mathlib.Omega.{arith}
 use lib.ListN.{length, take, drop}
+use Rattle.std.specs.Prelude.{Result, Ok, Err}
 use Rattle.patterns.specs.Outcome.{good, refused}
 use Rattle.sheet.specs.Line.{Line, lent_of}
 use Rattle.sheet.specs.Write.{sheet_held}
@@ -17,18 +18,18 @@ use Rattle.chase.specs.Judge.{Verdict, judged, shape_limit, Right, SettlesAtOnce
 use Rattle.judging.specs.Answer.{verdict_of, judge_says, judge_refusal_number, judge_refusal_line}
 use Rattle.judging.specs.declared.Figures.{Figures}
 use Rattle.judging.specs.declared.JudgeRefusal.{JudgeRefusal}
-use Rattle.judging.specs.declared.JudgeAnswer.{JudgeAnswer}
-use Rattle.judging.specs.declared.JudgeAnswer.TheVariants.{Settles as JudgeSettles, Endless as JudgeEndless, Refused as JudgeRefused}
+use Rattle.judging.specs.declared.Verdict.{Verdict as Judgement}
+use Rattle.judging.specs.declared.Verdict.TheVariants.{Settles as JudgeSettles, Endless as JudgeEndless}
 use Rattle.carrying.specs.Carrying.{Row}
-use Rattle.carrying.specs.Contract.{record_limit, record_room, row_line, run, Taken, CarriedOut, Refuses, short, wrong, many_shapes, endless, many_records, large_number}
+use Rattle.carrying.specs.Contract.{record_limit, record_room, row_line, Taken, CarriedOut, Refuses, wrong, many_shapes, endless, many_records, large_number}
 use Rattle.carrying.proofs.ContractLaws.{one_sheet}
 use Rattle.running.specs.Held.{rows_at, records_fit}
 use Rattle.running.specs.Run.{Ended, Passes, Outgrows, RunMeets}
-use Rattle.running.specs.Answer.{run_says, carry_refusal_number, carry_refusal_line}
+use Rattle.running.specs.Answer.{run_says, carry_refusal_number, carry_refusal_line, carry_refusal_of}
 use Rattle.running.specs.declared.Totals.{Totals}
 use Rattle.running.specs.declared.CarryRefusal.{CarryRefusal}
-use Rattle.running.specs.declared.RunAnswer.{RunAnswer}
-use Rattle.running.specs.declared.RunAnswer.TheVariants.{Ended as RunEnded, RecordsOver as RunRecordsOver, NumberOver as RunNumberOver, LineWrong as RunLineWrong, RoomWrong as RunRoomWrong}
+use Rattle.running.specs.declared.RunRefusal.{RunRefusal}
+use Rattle.running.specs.declared.RunRefusal.TheVariants.{RecordsOver, NumberOver, LineWrong, RoomWrong}
 use Rattle.running.specs.Inner.Carry.{Judged, Settled}
 
 module _ (numbers before : List ℕ) (room : record_room ≤ length before) where
@@ -97,37 +98,33 @@ module _ {numbers before : List ℕ} (s : Settled numbers before) where
 -- ---- by the answers
 
 -- What the run has answered.
-module _ (numbers rows now : List ℕ) (places : ℕ) (answer : RunAnswer) (meets : RunMeets numbers rows now places (run_says answer)) where
-  says : {a : RunAnswer} → answer ≡ a → RunMeets numbers rows now places (run_says a)
-  says e = subst (λ (a : RunAnswer). RunMeets numbers rows now places (run_says a)) e meets
+module _ (numbers rows now : List ℕ) (places : ℕ) (answer : Result Totals RunRefusal) (meets : RunMeets numbers rows now places (run_says answer)) where
+  says : {a : Result Totals RunRefusal} → answer ≡ a → RunMeets numbers rows now places (run_says a)
+  says e = subst (λ (a : Result Totals RunRefusal). RunMeets numbers rows now places (run_says a)) e meets
 
-  pub ran_ended : (t : Totals) → answer ≡ RunEnded t → Ended numbers rows now t.records t.firings
+  pub ran_ended : (t : Totals) → answer ≡ Ok t → Ended numbers rows now t.records t.firings
   ran_ended t e = (says e).1
 
-  pub ran_over : answer ≡ RunRecordsOver → Passes numbers rows now
-  ran_over e = (says e).1
-
-  pub ran_large : answer ≡ RunNumberOver → Outgrows numbers rows now
-  ran_large e = (says e).1
-
-  pub ran_wrong : (line : ℕ) → answer ≡ RunLineWrong line → sheet_held numbers ≡ refused 8 line
-  ran_wrong line e = (says e).1
-
-  pub ran_room : answer ≡ RunRoomWrong → records_fit rows → places ≡ 24576 → ⊥
-  ran_room e fits room = elim (says e).0 [ inl h ↦ omega arith | inr h ↦ h room ]
+  -- A refusal of the run is one of carrying out, where the sheet settles and there was room.
+  pub ran_refuses : {before : List ℕ} → Settled numbers before → records_fit rows → places ≡ 24576 → (r : RunRefusal) → answer ≡ Err r
+      → Refuses numbers before (carry_refusal_number (carry_refusal_of r)) (carry_refusal_line (carry_refusal_of r))
+  ran_refuses s fits room RecordsOver e = carry_over s (says e).1
+  ran_refuses s fits room NumberOver e = carry_large s (says e).1
+  ran_refuses s fits room (LineWrong line) e = absurd (not_wrong s line (says e).1)
+  ran_refuses s fits room RoomWrong e = absurd (elim (says e).0 [ inl h ↦ omega arith | inr h ↦ h room ])
 
 -- What Judge has answered.
-module _ (numbers before : List ℕ) (room : record_room ≤ length before) (answer : JudgeAnswer) (judged : Judged numbers (judge_says answer)) where
-  answers : {a : JudgeAnswer} → answer ≡ a → JudgeMeets shape_limit numbers judged.steps (judge_says a) judged.left
-  answers e = subst (λ (a : JudgeAnswer). JudgeMeets shape_limit numbers judged.steps (judge_says a) judged.left) e judged.meets
+module _ (numbers before : List ℕ) (room : record_room ≤ length before) (answer : Result Judgement JudgeRefusal) (judged : Judged numbers (judge_says answer)) where
+  answers : {a : Result Judgement JudgeRefusal} → answer ≡ a → JudgeMeets shape_limit numbers judged.steps (judge_says a) judged.left
+  answers e = subst (λ (a : Result Judgement JudgeRefusal). JudgeMeets shape_limit numbers judged.steps (judge_says a) judged.left) e judged.meets
 
-  pub judged_settles : (f : Figures) → answer ≡ JudgeSettles f → Settled numbers before
+  pub judged_settles : (f : Figures) → answer ≡ Ok (JudgeSettles f) → Settled numbers before
   judged_settles f e = judge_settles numbers before room judged.steps judged.left (verdict_of 1 f) (answers e).1 refl
 
-  pub judged_endless : (f : Figures) → answer ≡ JudgeEndless f → Refuses numbers before 21 0
+  pub judged_endless : (f : Figures) → answer ≡ Ok (JudgeEndless f) → Refuses numbers before 21 0
   judged_endless f e = judge_endless numbers before room judged.steps judged.left (verdict_of 2 f) (answers e).1 refl
 
-  pub judged_refused : (r : JudgeRefusal) → answer ≡ JudgeRefused r → (c : CarryRefusal) → (carry_refusal_number c ≡ judge_refusal_number r) × (carry_refusal_line c ≡ judge_refusal_line r)
+  pub judged_refused : (r : JudgeRefusal) → answer ≡ Err r → (c : CarryRefusal) → (carry_refusal_number c ≡ judge_refusal_number r) × (carry_refusal_line c ≡ judge_refusal_line r)
       → Refuses numbers before (carry_refusal_number c) (carry_refusal_line c)
   judged_refused r e c same =
       subst (λ (n : ℕ). Refuses numbers before n (carry_refusal_line c)) (sym same.0)

@@ -5,18 +5,17 @@ use Prim.Native.Nat.{ℕ, zero, suc, ◌+◌, ◌-◌, ◌*◌, ◌/◌, ◌≤�
 use native.Mathlib.Decide.{dec_lt}
 use native.Mathlib.Omega.{arith}
 use native.Mathlib.Numerals.{add-one}
-use lib.ListN.{length, get_or, set, take, drop, length-append, length-drop, length-map, get_or-append}
-use lib.Arith.{digits_div}
-use lib.Seq.{ext_get_or, get_or-drop, get_or-append-add}
-use Rattle.patterns.specs.Outcome.{padded}
+use borrow.Rule.Slice.PartMut.{put_mid}
+use lib.ListN.{length, get_or, set, take, drop, length-append, length-take, length-drop, get_or-append}
+use lib.Seq.{ext_get_or, get_or-take, get_or-drop, get_or-append-add}
 use Rattle.patterns.proofs.ListLaws.{length-padded}
 use Rattle.sheet.specs.Line.{Line, lent, lent_of}
 use Rattle.rules.specs.Inner.Bytes.{Part}
 use Rattle.rules.proofs.PartLaws.{part_none, part_more}
 use Rattle.carrying.specs.Carrying.{Row}
 use Rattle.carrying.specs.Contract.{row_line}
-use Rattle.running.specs.Held.{code_of, packed, unpacked, PackedRow, row_at, rows_at, Holds}
-use Rattle.running.proofs.RecordLaws.{rows_at-length, row_at_cell, unpacked_of, packed-unpacked}
+use Rattle.running.specs.Held.{packed, unpacked, PackedRow, row_at, rows_at, Holds}
+use Rattle.running.proofs.RecordLaws.{part_put, row_at_cell, packed-unpacked}
 
 -- The eight numbers of a record's R line, by those it is held as.
 module _ (numbers : List ℕ) (i : ℕ) (p : PackedRow (row_at numbers i)) where
@@ -42,24 +41,22 @@ module _ (numbers : List ℕ) (i : ℕ) (p : PackedRow (row_at numbers i)) where
       sym (row_at_cell numbers i (suc k) l) ∙ sym (ap (λ (r : List ℕ). get_or r (suc k) 0) row_is)
       ∙ ap (λ (n : ℕ). get_or line_of n 0) (let e : suc (suc k) ≡ 1 + suc k = omega arith in e)
 
--- One number of it more.
-pub part_next : {before after : List ℕ} {at : ℕ} (k : ℕ) {f : ℕ → ℕ} {x : ℕ} → Part before at (1 + k) f after → at + 1 + k < length before → x ≡ f (1 + k)
-    → Part before at (1 + (k + 1)) f (set after (at + 1 + k) x)
-part_next {before} {after} {at} k {f} {x} p h e =
-    subst (λ (n : ℕ). Part before at n f (set after (at + 1 + k) x)) (let q : 1 + k + 1 ≡ 1 + (k + 1) = omega arith in q)
-    (subst (λ (n : ℕ). Part before at (1 + k + 1) f (set after n x)) (let q : at + (1 + k) ≡ at + 1 + k = omega arith in q) (part_more p (omega arith) e))
-
-pub part_over : {a b c : List ℕ} {at m n : ℕ} {f g : ℕ → ℕ} → Part a at m f b → m ≤ n → Part b at n g c → Part a at n g c
-part_over p h q =
+-- One part put after another, as one part.
+pub part_join : {a b c : List ℕ} {at m n : ℕ} {f : ℕ → ℕ} → Part a at m f b → Part b (at + m) n (λ k. f (m + k)) c → Part a at (m + n) f c
+part_join {a} {b} {c} {at} {m} {n} {f} p q =
     record {
       whole = q.whole ∙ p.whole;
-      below = λ j l. q.below j l ∙ p.below j l;
-      above = λ j l. q.above j l ∙ p.above j (omega arith);
-      bytes = q.bytes;
+      below = λ j l. q.below j (omega arith) ∙ p.below j l;
+      above = λ j l. q.above j (omega arith) ∙ p.above j (omega arith);
+      bytes = λ i l. go i l (dec_lt i m);
     }
-
-pub part_self : {a b : List ℕ} {at m : ℕ} {f : ℕ → ℕ} → Part a at m f b → Part b at m f b
-part_self p = record { whole = refl; below = λ j l. refl; above = λ j l. refl; bytes = p.bytes }
+  where
+    go : (i : ℕ) → i < m + n → Dec (i < m) → get_or c (at + i) 0 ≡ f i
+    go i l (yes s) = q.below (at + i) (omega arith) ∙ p.bytes i s
+    go i l (no s) =
+        let e : at + i ≡ at + m + (i - m) = omega arith in
+        let z : m + (i - m) ≡ i = omega arith in
+        ap (λ (j : ℕ). get_or c j 0) e ∙ q.bytes (i - m) (omega arith) ∙ ap f z
 
 pub part_two : {before : List ℕ} {at : ℕ} (f : ℕ → ℕ) {x y : ℕ} → at + 1 < length before → x ≡ f 0 → y ≡ f 1 → Part before at 2 f (set (set before at x) (at + 1) y)
 part_two {before} {at} f {x} {y} h e q =
@@ -69,6 +66,24 @@ part_two {before} {at} f {x} {y} h e q =
 pub line_begun : (numbers records : List ℕ) (i : ℕ) (p : PackedRow (row_at numbers i)) → 8 * i + 8 ≤ length records
     → Part records (8 * i) 2 (λ (k : ℕ). get_or (line_of numbers i p) k 0) (set (set records (8 * i) 82) (8 * i + 1) (get_or numbers (7 * i) 0 / 8))
 line_begun numbers records i p h = part_two (λ (k : ℕ). get_or (line_of numbers i p) k 0) (omega arith) (line_letter numbers i p) (line_kind numbers i p)
+
+-- Its numbers are put after them.
+pub line_put : (numbers records ys : List ℕ) (i k : ℕ) (p : PackedRow (row_at numbers i)) → 8 * i + 8 ≤ length records → 7 * i + 7 ≤ length numbers → k ≡ 6
+    → ys ≡ take (7 * i + 7 - (7 * i + 1)) (drop (7 * i + 1) numbers)
+    → Part records (8 * i) 8 (λ (m : ℕ). get_or (line_of numbers i p) m 0) (put_mid (8 * i + 2) k (set (set records (8 * i) 82) (8 * i + 1) (get_or numbers (7 * i) 0 / 8)) ys)
+line_put numbers records ys i k p room inside six e =
+    let t = line_begun numbers records i p room in
+    let six' : 7 * i + 7 - (7 * i + 1) ≡ 6 = omega arith in
+    let rest = drop (7 * i + 1) numbers in
+    let size : length ys ≡ 6 = omega (arith, ap length e, length-take (7 * i + 7 - (7 * i + 1)) rest, length-drop (7 * i + 1) numbers) in
+    part_join {f = λ (m : ℕ). get_or (line_of numbers i p) m 0} t
+    (part_put (set (set records (8 * i) 82) (8 * i + 1) (get_or numbers (7 * i) 0 / 8)) ys (8 * i + 2) k 6 (λ (m : ℕ). get_or (line_of numbers i p) (2 + m) 0)
+    (omega (arith, t.whole, room)) six size
+    (λ m l.
+    let z : 7 * i + 1 + m ≡ 7 * i + (1 + m) = omega arith in
+    let w : 1 + (1 + m) ≡ 2 + m = omega arith in
+    ap (λ (r : List ℕ). get_or r m 0) e ∙ get_or-take (7 * i + 7 - (7 * i + 1)) rest m 0 (omega arith) ∙ get_or-drop (7 * i + 1) numbers m 0
+    ∙ ap (λ (n : ℕ). get_or numbers n 0) z ∙ line_number numbers i p (1 + m) (omega arith) (omega arith) ∙ ap (λ (n : ℕ). get_or (line_of numbers i p) n 0) w))
 
 -- ---- all of them
 

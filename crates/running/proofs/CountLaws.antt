@@ -1,5 +1,7 @@
 -- Firings counted: pairs forgotten, those of one rule counted, those of all rules. Assumes nothing.
 use mathlib.Core.Path.{◌≡◌, refl, sym, ◌∙◌, ap, subst}
+use mathlib.Core.Bool.{true, false}
+use Rattle.std.specs.Prelude.{Option, is_some}
 use mathlib.Core.List.{List, [], ◌∷◌, ◌++◌}
 use Prim.Native.Nat.{ℕ, suc, ◌+◌, ◌-◌, ◌*◌, ◌≤◌, ◌<◌}
 use native.Mathlib.Numerals.{add-one}
@@ -13,14 +15,14 @@ use Rattle.rules.specs.Inner.Bytes.{Part, Clear}
 use Rattle.rules.proofs.PartLaws.{part-zeros}
 use Rattle.carrying.specs.Carrying.{Row, Pair, Pair-discrete, FiresOn, fires_on?, pair_of}
 use Rattle.carrying.specs.Inner.Keys.{pairs_on, firings_on}
-use Rattle.running.specs.Inner.Chains.{Chains, FoundAt}
+use Rattle.running.specs.Inner.Chains.{Chains, FoundIn}
 use Rattle.running.specs.Inner.Held.{bucket_at, row_at, rows_at, section, Stored}
 use Rattle.running.specs.Inner.Firing.{rule_at, row_no, RecordIn}
 use Rattle.running.specs.Inner.Pairs.{pair_bucket, IsPair, RecordsIn, InBucket, pairs_at}
 use Rattle.running.specs.Inner.Visits.{Running, rules_from}
 use Rattle.running.specs.Inner.Counted.{NoPairs}
 use Rattle.running.specs.declared.visits.Counts.{Counts}
-use Rattle.running.proofs.RecordLaws.{add_there, add_new, section_cell, section-length, section_same}
+use Rattle.running.proofs.RecordLaws.{add_there, add_new, found_there, found_nowhere, section_cell, section-length, section_same}
 use Rattle.running.proofs.FiringLaws.{add_all_last, stored_record}
 use Rattle.running.proofs.VisitLaws.{pairs_at-length, records_in, noted_room, pair_there, pair_nowhere, noted_in, noted_stored, noted_pairs, noted_more}
 
@@ -136,19 +138,19 @@ module _ {table numbers index : List ℕ} {rules r count by n i : ℕ} (k : Coun
     abbrev here : Pair ℕ
     here = pair_of (suc r) (rule_at table r) (row_no numbers i)
 
-    module _ (at : ℕ) (found : FoundAt (IsPair table numbers index r i) n at) where
-      pub counting_there : (at ≡ n → ⊥) → Counting table numbers index rules r count by n (i + 1)
+    module _ (at : Option ℕ) (found : FoundIn (IsPair table numbers index r i) n at) where
+      pub counting_there : is_some at ≡ true → Counting table numbers index rules r count by n (i + 1)
       counting_there other =
-          let l : at < n = omega (arith, found.within) in
+          let f = found_there (IsPair table numbers index r i) n at found other in
           record {
             within = omega arith;
             few = omega (arith, k.few);
             running = k.running;
-            pairs = sym (add_there Pair-discrete here (pairs_at table numbers index n) (pair_there k.running fits r i known more fires at l (found.there l)))
+            pairs = sym (add_there Pair-discrete here (pairs_at table numbers index n) (pair_there k.running fits r i known more fires f.0 f.1 f.2))
                 ∙ ap (add Pair-discrete here) k.pairs ∙ sym (pairs_add table numbers r i fires);
           }
 
-      pub counting_new : at ≡ n → (b : ℕ) → b < 4096 → b ≡ pair_bucket by (rule_at table r) r (row_at numbers i)
+      pub counting_new : is_some at ≡ false → (b : ℕ) → b < 4096 → b ≡ pair_bucket by (rule_at table r) r (row_at numbers i)
           → Counting table numbers (noted_in index n r i b) rules r count by (n + 1) (i + 1)
       counting_new e b small is =
           record {
@@ -160,7 +162,7 @@ module _ {table numbers index : List ℕ} {rules r count by n i : ℕ} (k : Coun
               low = omega arith;
             };
             pairs = noted_pairs k.running r i b known more fires free small is
-                ∙ sym (add_new Pair-discrete here (pairs_at table numbers index n) (pair_nowhere k.running fits r i known more fires (found.nowhere e)))
+                ∙ sym (add_new Pair-discrete here (pairs_at table numbers index n) (pair_nowhere k.running fits r i known more fires (found_nowhere (IsPair table numbers index r i) n at found e)))
                 ∙ ap (add Pair-discrete here) k.pairs ∙ sym (pairs_add table numbers r i fires);
           }
         where

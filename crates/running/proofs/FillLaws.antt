@@ -1,25 +1,24 @@
 -- Zeros that are filled: where each number of a row goes, and one row more. Assumes nothing.
 use mathlib.Core.Path.{◌≡◌, refl, sym, ◌∙◌, ap}
 use mathlib.Core.List.{List, [], ◌∷◌, ◌++◌}
-use Prim.Native.Nat.{ℕ, suc, ◌+◌, ◌*◌, ◌≤◌, ◌<◌}
+use Prim.Native.Nat.{ℕ, suc, ◌+◌, ◌≤◌, ◌<◌}
 use native.Mathlib.Numerals.{add-one}
 use native.Mathlib.Omega.{arith}
 use lib.ListN.{length, get_or, take, drop, set, length-take, length-drop}
 use lib.Seq.{take_all, get_or-take, get_or-drop, length-take-le}
 use Rattle.rules.specs.Inner.Bytes.{Part}
-use Rattle.rules.specs.Inner.Rows.{row_numbers}
 use Rattle.rules.proofs.PartLaws.{part_none, part_next}
 use Rattle.carrying.specs.Carrying.{Row, numbers_in, filled, zeros, filled_rows}
 use Rattle.carrying.proofs.FilledLaws.{zeros-append, zero-filled, other_stays, one_zero, no_zero_there, zeros_few}
 
 -- ---- the numbers of a row
 
-module _ (lines : List ℕ) (n width : ℕ) where
-  pub row_size : 8 * n + 8 ≤ length lines → width ≤ 6 → length (row_numbers lines n width) ≡ width
-  row_size inside few = length-take-le width (drop (8 * n + 2) lines) (omega (arith, length-drop (8 * n + 2) lines))
+module _ (line : List ℕ) (width : ℕ) where
+  pub row_size : length line ≡ 8 → width ≤ 6 → length (take width (drop 2 line)) ≡ width
+  row_size eight few = length-take-le width (drop 2 line) (omega (arith, length-drop 2 line))
 
-  pub row_number : (k : ℕ) → k < width → get_or (row_numbers lines n width) k 0 ≡ get_or lines (8 * n + 2 + k) 0
-  row_number k h = get_or-take width (drop (8 * n + 2) lines) k 0 h ∙ get_or-drop (8 * n + 2) lines k 0
+  pub row_number : (k : ℕ) → k < width → get_or (take width (drop 2 line)) k 0 ≡ get_or line (2 + k) 0
+  row_number k h = get_or-take width (drop 2 line) k 0 h ∙ get_or-drop 2 line k 0
 
 -- The first k numbers of a row are put, each 0 as the next number.
 pub record Filling (ns : List ℕ) (next : ℕ) (before : List ℕ) (k given : ℕ) (row : List ℕ) : Type 0 where

@@ -1,37 +1,36 @@
 -- A rule of the table on a record that is held: whether it fires, what it makes. Assumes nothing.
 use mathlib.Core.Path.{◌≡◌, refl, sym, ◌∙◌, ap, subst}
-use mathlib.Core.Logic.{◌⊎◌, inl, inr}
-use mathlib.Core.Bool.{Bool, true, false, cond}
+use mathlib.Core.Bool.{true}
+use mathlib.Core.Logic.{inl, inr}
 use mathlib.Core.List.{List, [], ◌∷◌, ◌++◌, map}
-use mathlib.Core.Option.{Option, none, some}
-use Prim.Native.Nat.{ℕ, zero, suc, ◌+◌, ◌-◌, ◌*◌, ◌/◌, ◌%◌, ◌≤◌, ◌<◌, max}
-use native.Mathlib.Decide.{ℕ_discrete, dec_lt, dec_le}
+use mathlib.Core.Option.{Option as Maybe, none, some}
+use Rattle.std.specs.Prelude.{Option, Some, None, is_some}
+use Prim.Native.Nat.{ℕ, zero, suc, ◌+◌, ◌-◌, ◌*◌, ◌≤◌, ◌<◌, max}
+use native.Mathlib.Decide.{ℕ_discrete, dec_lt}
 use native.Mathlib.Numerals.{add-one}
 use native.Mathlib.Omega.{arith}
-use lib.Dec.{eqb}
-use borrow.Author.Tests.{eq-eqb, ne_eqb}
-use lib.ListN.{length, get_or, take, drop, set, get_elem?, length-append, length-map, get_or-append, get_or-eq_default}
-use lib.Seq.{ext_get_or, take-suc, take_all}
+use lib.ListN.{length, get_or, take, drop, get_elem?, length-map, get_or-eq_default}
+use lib.Seq.{ext_get_or, take_all}
 use Rattle.patterns.specs.Outcome.{padded}
-use Rattle.patterns.specs.Pattern.{pick, add, add_all, index}
-use Rattle.patterns.proofs.ListLaws.{length-padded, padded_at}
-use Rattle.sheet.specs.Sheet.{top_mark, marks_from}
+use Rattle.patterns.specs.Pattern.{add, add_all, index}
+use Rattle.patterns.proofs.ListLaws.{padded_at}
+use Rattle.sheet.specs.Sheet.{top_mark}
 use Rattle.chase.specs.Lists.{In, All}
-use Rattle.chase.specs.Rules.{Head, Rule, marks_of, nth}
-use Rattle.chase.specs.Making.{value_of, Agree, or_else, carried_values, makes}
+use Rattle.chase.specs.Rules.{Head, Rule}
+use Rattle.chase.specs.Making.{value_of, or_else, carried_values}
 use Rattle.chase.proofs.MakingLaws.{agree_length, in_marks_of}
 use Rattle.chase.proofs.StepLaws.{element_in}
-use Rattle.rules.specs.Table.{rule_in, row_bytes, TableFits, BytesFit, MarksFit, first_place, later}
+use Rattle.rules.specs.Table.{rule_in, row_bytes, first_place}
 use Rattle.rules.specs.Inner.Bytes.{Part}
-use Rattle.rules.proofs.RuleLaws.{RowFits, row_fits, rule_kind, Width, Mark, head_nth, head_fits, head-count}
+use Rattle.rules.proofs.RuleLaws.{RowFits, row_fits, rule_kind, Width, head_nth, head_fits}
 use Rattle.rules.proofs.Sources.{first_within, first_there}
 use Rattle.rules.proofs.FirstPlaces.{map_at, at_place, value_first, first_field, agree_at, at_agree}
 use Rattle.carrying.specs.Carrying.{Row, Row-discrete, FiresOn, fresh_marks, number_of, row_made}
 use Rattle.carrying.proofs.MarkLaws.{in_fresh}
 use Rattle.carrying.proofs.SheetMarks.{fresh_above, fresh_place}
-use Rattle.carrying.proofs.ListLaws.{Begins, begins-add_all, begins-length}
-use Rattle.running.specs.Inner.Held.{code_of, packed, unpacked, PackedRow, row_at, rows_at, Stored, Grown}
-use Rattle.running.specs.Inner.Firing.{rule_at, head_no, row_no, RecordIn, Ready, value_from, with_made}
+use Rattle.carrying.proofs.ListLaws.{begins-add_all, begins-length}
+use Rattle.running.specs.Inner.Held.{code_of, packed, unpacked, PackedRow, row_at, rows_at, Stored, Grown, OrOver}
+use Rattle.running.specs.Inner.Firing.{rule_at, head_no, row_no, RecordIn, Ready, value_from}
 use Rattle.running.proofs.RecordLaws.{row_at_cell, unpacked_of, packed-row, packed-length, unpacked-packed}
 
 -- ---- the numbers of a packed row
@@ -319,6 +318,14 @@ grown_over_whole all g h l =
 
 pub grown_as : {a i a' i' : List ℕ} {by count n : ℕ} {new : List Row} (all : List Row) → Grown a i by count a' i' n new → new ≡ all → Grown a i by count a' i' n all
 grown_as {a} {i} {a'} {i'} {by} {count} {n} all g e = subst (Grown a i by count a' i' n) e g
+
+-- There is room where no more records than that can be said of the answer.
+pub room_left : {Said : ℕ → Type 0} (r : Option ℕ) → OrOver (λ n. n) Said r → ((n : ℕ) → Said n → n ≤ 4096) → is_some r ≡ true
+room_left (Some n) o few = refl
+room_left None o few = absurd (omega (arith, o.1, few o.0 o.2))
+
+pub said_of : (Said : ℕ → Type 0) (r : Option ℕ) (n : ℕ) → r ≡ Some n → OrOver (λ m. m) Said r → Said n
+said_of Said r n e o = (subst (OrOver (λ m. m) Said) e o).1
 
 pub stored_record : {numbers index : List ℕ} {by count : ℕ} → Stored numbers index by count → (i : ℕ) → i < count → RecordIn numbers i
 stored_record s i h = record { small = omega (arith, s.few); inside = omega (arith, s.room, s.few); packed = s.each i h }

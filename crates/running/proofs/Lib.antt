@@ -7,8 +7,10 @@ pub mod FillLaws
 pub mod FiringLaws
 pub mod HashLaws
 pub mod KeepLaws
+pub mod LineLaws
 pub mod MarkLaws
 pub mod PairLaws
 pub mod RecordLaws
+pub mod ChainedLaws
 pub mod RunLaws
 pub mod VisitLaws

@@ -1,33 +1,29 @@
 -- Pairs of a rule and its carried values: the same, found, noted. Assumes nothing.
-use mathlib.Core.Path.{◌≡◌, refl, sym, ◌∙◌, ap, subst}
+use mathlib.Core.Path.{◌≡◌, refl, sym, ◌∙◌, ap}
 use mathlib.Core.Logic.{◌⊎◌, inl, inr}
 use mathlib.Core.Bool.{Bool, true, false, cond}
 use mathlib.Core.List.{List, [], ◌∷◌, ◌++◌, map}
-use mathlib.Core.Option.{Option, none, some, some-injective}
-use Prim.Native.Nat.{ℕ, zero, suc, ◌+◌, ◌-◌, ◌*◌, ◌≤◌, ◌<◌}
-use native.Mathlib.Decide.{ℕ_discrete, dec_lt}
+use mathlib.Core.Option.{Option, some, some-injective}
+use Prim.Native.Nat.{ℕ, zero, suc, ◌+◌, ◌-◌, ◌≤◌, ◌<◌}
+use native.Mathlib.Decide.{ℕ_discrete}
 use native.Mathlib.Numerals.{add-one}
 use native.Mathlib.Omega.{arith}
 use lib.Dec.{eqb}
-use borrow.Author.Tests.{eq-eqb, ne_eqb, eqb-true}
-use lib.ListN.{length, get_or, set, length-append, length-set}
-use lib.Seq.{get_or-set_same, get_or-set_other}
+use borrow.Author.Tests.{eqb-true}
+use lib.ListN.{length, get_or}
 use Rattle.chase.specs.Lists.{In}
 use Rattle.chase.specs.Rules.{Rule}
-use Rattle.chase.specs.Making.{value_of, Agree, carried_marks, carried_values, present}
+use Rattle.chase.specs.Making.{value_of, carried_marks, carried_values, present}
 use Rattle.chase.proofs.MakingLaws.{agree_length, agree_has_value, carried_in}
-use Rattle.rules.specs.Table.{rule_in, row_bytes, TableFits, source_at, first_place}
+use Rattle.rules.specs.Table.{source_at, first_place}
 use Rattle.rules.proofs.Sources.{Source, nothing, first, source_is, carried_source, first_at, first_within}
 use Rattle.rules.proofs.FirstPlaces.{at_place, value_first}
-use Rattle.rules.proofs.RuleLaws.{RowFits, row_fits}
-use Rattle.carrying.specs.Carrying.{Row, Pair, FiresOn, pair_of}
+use Rattle.carrying.specs.Carrying.{FiresOn}
 use Rattle.chase.proofs.ListLaws.{map_same}
-use Rattle.running.specs.Inner.Chains.{mixed, bucket_in, Chains, FoundAt}
-use Rattle.chains.proofs.ChainLaws.{chains_alike, Searching, search_begin, search_place, search_next, search_less, found_here, found_nowhere}
-use Rattle.running.specs.Inner.Held.{unpacked, PackedRow, row_at, section}
-use Rattle.running.specs.Inner.Firing.{rule_at, row_no, RecordIn}
-use Rattle.running.specs.Inner.Pairs.{mixed_from, pair_bucket, SameCarried, rule_of, record_of, IsPair, bucket_of_pair, RecordsIn, Noted, InBucket, pairs_at}
-use Rattle.running.proofs.RecordLaws.{section_cell, pushed, pushed_size, pushed_beyond, pushed_chains}
+use Rattle.running.specs.Inner.Chains.{mixed, bucket_in}
+use Rattle.running.specs.Inner.Held.{unpacked, PackedRow, row_at}
+use Rattle.running.specs.Inner.Firing.{rule_at}
+use Rattle.running.specs.Inner.Pairs.{mixed_from, pair_bucket, SameCarried, record_of, IsPair, bucket_of_pair}
 use Rattle.running.proofs.FiringLaws.{packed-number}
 
 -- ---- lists
@@ -166,50 +162,3 @@ pub pair_falls : (by : ℕ) (table numbers index : List ℕ) (r i b : ℕ) → b
 pair_falls by table numbers index r i b e j p =
     ap (λ (n : ℕ). pair_bucket by (rule_at table n) n (row_at numbers (record_of index j))) p.rule
     ∙ bucket_same by (rule_at table r) (row_at numbers (record_of index j)) (row_at numbers i) r p.carried ∙ sym e
-
--- A search for a pair in its bucket, whatever the multiplier: `at` is the next place to look at.
-pub record Seeking (table numbers index : List ℕ) (rules count r i b at : ℕ) : Type 0 where
-  pub bucket : InBucket table numbers index rules count r i b
-  pub here : Searching (bucket_of_pair bucket.by table numbers index) b (IsPair table numbers index r i) count at
-
-pub seek_begin : {table numbers index : List ℕ} {rules count r i b : ℕ} → InBucket table numbers index rules count r i b → b < 4096 → (at : ℕ) → at ≡ get_or index (8192 + b) 0
-    → Seeking table numbers index rules count r i b at
-seek_begin {table} {numbers} {index} {rules} {count} {r} {i} {b} k small at e =
-    record {
-      bucket = k;
-      here = search_begin (bucket_of_pair k.by table numbers index) b (IsPair table numbers index r i) k.noted.chain at small (e ∙ sym (section_cell 2 index b small));
-    }
-
-module _ {table numbers index : List ℕ} {rules count r i b at : ℕ} (s : Seeking table numbers index rules count r i b at) where
-  abbrev Is : ℕ → Type 0
-  Is = IsPair table numbers index r i
-
-  abbrev falls_in : ℕ → ℕ
-  falls_in = bucket_of_pair s.bucket.by table numbers index
-
-  falls : (j : ℕ) → Is j → falls_in j ≡ b
-  falls = pair_falls s.bucket.by table numbers index r i b s.bucket.is
-
-  pub seek_nowhere : at ≡ 0 → FoundAt (IsPair table numbers index r i) count count
-  seek_nowhere e = found_nowhere falls_in b Is s.bucket.noted.chain falls at s.here e
-
-  module _ (more : 0 < at) where
-    pub seek_place : at - 1 < count
-    seek_place = search_place falls_in b Is s.bucket.noted.chain falls at s.here more
-
-    pub seek_small : at - 1 < 4096
-    seek_small = omega (arith, seek_place, s.bucket.noted.chain.small)
-
-    pub seek_here : IsPair table numbers index r i (at - 1) → FoundAt (IsPair table numbers index r i) count (at - 1)
-    seek_here = found_here falls_in b Is s.bucket.noted.chain falls at s.here more
-
-    module _ (after : ℕ) (e : after ≡ get_or index (12288 + (at - 1)) 0) where
-      leads : after ≡ get_or (section 3 index) (at - 1) 0
-      leads = e ∙ sym (section_cell 3 index (at - 1) seek_small)
-
-      pub seek_less : after < at
-      seek_less = search_less falls_in b Is s.bucket.noted.chain falls at s.here more after leads
-
-      pub seek_next : (IsPair table numbers index r i (at - 1) → ⊥) → Seeking table numbers index rules count r i b after
-      seek_next other =
-          record { bucket = s.bucket; here = search_next falls_in b Is s.bucket.noted.chain falls at s.here more other after leads }

@@ -1,14 +1,17 @@
 -- Records that are held: found, added. Assumes nothing.
 use mathlib.Core.Path.{◌≡◌, refl, sym, ◌∙◌, ap, subst}
+use mathlib.Core.Bool.{true, false, false≢true}
 use mathlib.Core.Logic.{◌⊎◌, inl, inr}
+use Rattle.std.specs.Prelude.{Option, Some, None, is_some}
 use mathlib.Core.List.{List, [], ◌∷◌, ◌++◌}
 use Prim.Native.Nat.{ℕ, zero, suc, ◌+◌, ◌-◌, ◌*◌, ◌≤◌, ◌<◌}
 use native.Mathlib.Decide.{ℕ_discrete}
 use native.Mathlib.Numerals.{add-one}
 use native.Mathlib.Omega.{arith}
+use borrow.Rule.Slice.PartMut.{put_mid}
 use lib.ListN.{length, get_or, take, drop, set, length-append, length-set, length-take, length-drop, get_or-append}
 use lib.Arith.{digits_div, digits_mod}
-use lib.Seq.{get_or-set_same, get_or-set_other, get_or-take, get_or-drop, ext_get_or, get_or-append-add}
+use lib.Seq.{length-take-le, get_or-set_same, get_or-set_other, get_or-take, get_or-drop, ext_get_or, get_or-append-add}
 use Rattle.patterns.specs.Outcome.{padded}
 use Rattle.patterns.specs.Pattern.{pick, add}
 use Rattle.patterns.proofs.ListLaws.{length-padded}
@@ -16,7 +19,7 @@ use Rattle.sheet.proofs.FormLaws.{take-padded}
 use Rattle.chase.specs.Lists.{In}
 use Rattle.rules.specs.Inner.Bytes.{Part}
 use Rattle.carrying.specs.Carrying.{Row, Row-discrete}
-use Rattle.running.specs.Inner.Chains.{bucket_of, Chains}
+use Rattle.running.specs.Inner.Chains.{bucket_of, Chains, FoundIn}
 use Rattle.chains.proofs.ChainLaws.{chains_push, chains_alike}
 use Rattle.running.specs.Inner.Held.{packed, unpacked, PackedRow, row_at, bucket_at, rows_at, section, Stored, Grown}
 
@@ -76,6 +79,26 @@ module _ (n at : ℕ) where
       let m = window_length a p in
       ext_get_or 0 (take n (drop at a)) (take n (drop at b)) (m ∙ sym (window_length b q))
       (λ k h. let s : k < n = omega arith in window_cell a k s ∙ e k s ∙ sym (window_cell b k s))
+
+-- After a write to so many numbers from a place on, as a slice of its own: Part says the same number by number.
+pub part_put : (before ys : List ℕ) (at k n : ℕ) (f : ℕ → ℕ) → at + n ≤ length before → k ≡ n → length ys ≡ n → ((i : ℕ) → i < n → get_or ys i 0 ≡ f i)
+    → Part before at n f (put_mid at k before ys)
+part_put before ys at k n f fits e size is =
+    let front : length (take at before) ≡ at = length-take-le at before (omega arith) in
+    record {
+      whole = omega (arith, length-append (take at before) (ys ++ drop k (drop at before)), length-append ys (drop k (drop at before)), length-drop k (drop at before), length-drop at before);
+      below = λ j h. get_or-append (take at before) (ys ++ drop k (drop at before)) 0 j (omega arith) ∙ get_or-take at before j 0 h;
+      above = λ j h.
+          let q : j ≡ length (take at before) + (length ys + (j - (at + n))) = omega arith in
+          let z : at + (k + (j - (at + n))) ≡ j = omega arith in
+          ap (λ (i : ℕ). get_or (put_mid at k before ys) i 0) q ∙ get_or-append-add (take at before) (ys ++ drop k (drop at before)) (length ys + (j - (at + n))) 0
+          ∙ get_or-append-add ys (drop k (drop at before)) (j - (at + n)) 0 ∙ get_or-drop k (drop at before) (j - (at + n)) 0
+          ∙ get_or-drop at before (k + (j - (at + n))) 0 ∙ ap (λ (i : ℕ). get_or before i 0) z;
+      bytes = λ i h.
+          let q : at + i ≡ length (take at before) + i = omega arith in
+          ap (λ (m : ℕ). get_or (put_mid at k before ys) m 0) q ∙ get_or-append-add (take at before) (ys ++ drop k (drop at before)) i 0
+          ∙ get_or-append ys (drop k (drop at before)) 0 i (omega arith) ∙ is i h;
+    }
 
 pub row_at_cell : (numbers : List ℕ) (i k : ℕ) → k < 7 → get_or (row_at numbers i) k 0 ≡ get_or numbers (7 * i + k) 0
 row_at_cell numbers i = window_cell 7 (7 * i) numbers
@@ -232,6 +255,17 @@ module _ (index : List ℕ) (c count b : ℕ) (size : length index ≡ 24576) (l
       subst (λ (h : List ℕ). Chains bucket h (section (c + 1) (pushed index c count b)) (count + 1)) (sym pushed_heads)
       (subst (λ (n : List ℕ). Chains bucket (set (section c index) b (count + 1)) n (count + 1)) (sym pushed_next)
       (chains_push bucket (section c index) (section (c + 1) index) count b chain small e fits))
+
+-- ---- found
+
+module _ (Is : ℕ → Type 0) (count : ℕ) where
+  pub found_there : (r : Option ℕ) → FoundIn Is count r → is_some r ≡ true → (at : ℕ) × (at < count) × Is at
+  found_there (Some at) f e = (at, f.0, f.1)
+  found_there None f e = absurd (false≢true e)
+
+  pub found_nowhere : (r : Option ℕ) → FoundIn Is count r → is_some r ≡ false → (j : ℕ) → j < count → Is j → ⊥
+  found_nowhere (Some at) f e = absurd (false≢true (sym e))
+  found_nowhere None f e = f
 
 -- ---- one record more
 

@@ -1,30 +1,26 @@
 -- What a run in memory is of the sheet: how it begins, how it ends, and what it then answers. Assumes nothing.
 use mathlib.Core.Path.{◌≡◌, refl, sym, ◌∙◌, ap, subst}
 use mathlib.Core.Bool.{false≢true}
-use mathlib.Core.Logic.{◌⊎◌, inl, inr}
-use mathlib.Core.List.{List, [], ◌∷◌, ◌++◌, map}
+use mathlib.Core.Logic.{inl, inr}
+use mathlib.Core.List.{List, ◌∷◌}
 use Prim.Native.Nat.{ℕ, zero, suc, ◌+◌, ◌*◌, ◌≤◌, ◌<◌}
 use native.Mathlib.Omega.{arith}
-use native.Mathlib.Numerals.{add-one}
-use lib.ListN.{length, get_or, take, drop, length-drop}
+use lib.ListN.{length, get_or, drop}
 use lib.Seq.{drop-drop}
-use Rattle.patterns.specs.Outcome.{Outcome, good, refused}
-use Rattle.columns.specs.Column.{largest_number}
+use Rattle.patterns.specs.Outcome.{good, refused}
 use Rattle.sheet.specs.Line.{Line}
 use Rattle.sheet.specs.Write.{sheet_held}
 use Rattle.chase.specs.Lists.{In}
 use Rattle.chase.specs.Rules.{Rule, rules_of}
-use Rattle.chase.specs.Run.{Reachable, rows_of}
-use Rattle.chase.specs.Counting.{Count, MoreThan}
 use Rattle.rules.proofs.SheetLaws.{held_lines}
-use Rattle.rules.specs.Table.{good_lines, lines_in, rules_in, SheetHeld, rule_in, row_bytes, table_rules, TableFits}
-use Rattle.carrying.specs.Carrying.{Row, State, after, begins, table_rows}
-use Rattle.carrying.specs.Contract.{record_limit, top, run, Ends}
+use Rattle.rules.specs.Table.{good_lines, lines_in, rules_in, SheetHeld, table_rules}
+use Rattle.carrying.specs.Carrying.{State, after, begins, table_rows}
+use Rattle.carrying.specs.Contract.{record_limit, run, Ends}
 use Rattle.carrying.specs.Inner.Keys.{key_after, firings_on}
 use Rattle.carrying.proofs.SameRun.{same_run, firings_by_rule}
 use Rattle.carrying.proofs.SheetMarks.{RightMarks, sheet_marks}
 use Rattle.carrying.proofs.Theorems.{over, records_count, fresh_count}
-use Rattle.running.specs.Held.{PackedRow, row_at, rows_at, records_fit, Holds}
+use Rattle.running.specs.Held.{PackedRow, row_at, rows_at, records_fit}
 use Rattle.running.specs.Run.{Ran, ended, records_over, number_over, line_wrong, room_wrong, Ended, Passes, Outgrows, RunMeets}
 use Rattle.running.specs.Inner.Chains.{Chains}
 use Rattle.running.specs.Inner.Held.{section, Stored}
@@ -35,7 +31,7 @@ use Rattle.running.specs.Inner.Begun.{Begun, RanWith}
 use Rattle.running.specs.declared.visits.Counts.{Counts}
 use Rattle.running.proofs.RecordLaws.{rows_at-length, section_cell, section-length}
 use Rattle.running.proofs.VisitLaws.{pairs_at-length}
-use Rattle.running.proofs.KeepLaws.{Each, each_from, Kept, kept_all, Marked, kept_keys}
+use Rattle.running.proofs.KeepLaws.{each_from, Kept, kept_all, Marked, kept_keys}
 
 -- ---- the sheet's rules
 

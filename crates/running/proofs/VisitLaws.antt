@@ -3,29 +3,30 @@ use mathlib.Core.Path.{◌≡◌, refl, sym, ◌∙◌, ap, subst}
 use mathlib.Core.Logic.{◌⊎◌, inl, inr}
 use mathlib.Core.List.{List, [], ◌∷◌, ◌++◌, map}
 use Prim.Native.Nat.{ℕ, zero, suc, ◌+◌, ◌-◌, ◌*◌, ◌≤◌, ◌<◌}
-use native.Mathlib.Decide.{ℕ_discrete, dec_lt}
+use native.Mathlib.Decide.{ℕ_discrete}
 use native.Mathlib.Numerals.{add-one}
 use native.Mathlib.Omega.{arith}
 use lib.ListN.{length, get_or, get_elem?, set, length-append, length-set}
-use mathlib.Core.Option.{Option, some}
+use mathlib.Core.Option.{Option as Maybe, some}
+use Rattle.std.specs.Prelude.{Option, Some, None}
 use lib.Seq.{get_or-set_same, get_or-set_other}
-use Rattle.patterns.specs.Pattern.{pick, add_all}
+use Rattle.patterns.specs.Pattern.{pick}
 use Rattle.patterns.proofs.PatternLaws.{pick_yes, pick_no}
 use Rattle.chase.specs.Lists.{In, in?}
 use Rattle.chase.specs.Rules.{Rule}
 use Rattle.chase.specs.Making.{carried_values}
-use Rattle.rules.specs.Table.{row_bytes, rule_in, TableFits}
-use Rattle.rules.proofs.RuleLaws.{RowFits, row_fits}
+use Rattle.rules.specs.Table.{TableFits}
+use Rattle.rules.proofs.RuleLaws.{row_fits}
 use Rattle.carrying.specs.Carrying.{Row, Row-discrete, Pair, Pair-discrete, State, FiresOn, fires_on?, fresh_marks, pair_of, fired}
 use Rattle.carrying.proofs.ListLaws.{begins-add_all, begins-length}
-use Rattle.running.specs.Inner.Chains.{Chains, FoundAt}
+use Rattle.running.specs.Inner.Chains.{Chains}
 use Rattle.chains.proofs.ChainLaws.{chains_alike}
-use Rattle.running.specs.Inner.Held.{unpacked, row_at, bucket_at, rows_at, section, Stored, Grown}
-use Rattle.running.specs.Inner.Firing.{rule_at, row_no, RecordIn, Ready, with_made}
-use Rattle.running.specs.Inner.Pairs.{pair_bucket, SameCarried, rule_of, record_of, IsPair, bucket_of_pair, RecordsIn, Noted, pairs_at}
-use Rattle.running.specs.Inner.Visits.{state_at, Running, Prepared, Over, Left, fired_once, kept_on, kept_rule, kept_rules, kept_visit, kept_after, keep_in, rules_from, Ended}
+use Rattle.running.specs.Inner.Held.{unpacked, row_at, bucket_at, rows_at, section, Stored, Grown, OrOver}
+use Rattle.running.specs.Inner.Firing.{rule_at, row_no, RecordIn, with_made}
+use Rattle.running.specs.Inner.Pairs.{pair_bucket, rule_of, record_of, IsPair, bucket_of_pair, RecordsIn, Noted, pairs_at}
+use Rattle.running.specs.Inner.Visits.{state_at, Running, Over, Left, fired_once, kept_on, kept_rule, kept_rules, kept_visit, kept_after, keep_in, rules_from, rows_held, Ended}
 use Rattle.running.specs.declared.visits.Counts.{Counts}
-use Rattle.running.proofs.RecordLaws.{rows_at_alike, rows_at-length, section_same, section_other, pushed, pushed_size, pushed_beyond, pushed_chains}
+use Rattle.running.proofs.RecordLaws.{rows_at-length, section_same, pushed, pushed_size, pushed_beyond, pushed_chains}
 use Rattle.running.proofs.FiringLaws.{stored_record}
 use Rattle.running.proofs.PairLaws.{same_carried, carried_same}
 
@@ -349,6 +350,11 @@ module _ {table numbers index : List ℕ} {rules : ℕ} {c : Counts} (run : Runn
   stored_noted b known there fires free small is {index₁} e =
       subst (λ (x : List ℕ). Stored numbers x c.by c.rows) (sym e) (noted_stored run r i b known there fires free small is)
 
+-- What is said of an answer follows from what was.
+pub over_as : {Said Other : Counts → Type 0} (r : Option Counts) → ((d : Counts) → Said d → Other d) → OrOver rows_held Said r → OrOver rows_held Other r
+over_as (Some d) f o = (o.0, f d o.1)
+over_as None f o = (o.0, o.1, f o.0 o.2)
+
 -- ---- any rule
 
 kept_once : (k n : ℕ) (r : Rule) (w : Row) (s : State) → (k ≡ 0 → ⊥) → fired_once n r w s ≡ kept_on k n r w s
@@ -557,7 +563,7 @@ module _ {fresh table numbers : List ℕ} {rules : ℕ} {first : Counts} {begin 
     (l : Left table numbers' rules c numbers'' index'' d (kept_rules (keep_in fresh) 0 (rules_from table 0 rules) (row_no numbers' i) (state_at table numbers' index' c))) where
   visit_is : kept_rules (keep_in fresh) 0 (rules_from table 0 rules) (row_no numbers' i) (state_at table numbers' index' c) ≡ kept_after (keep_in fresh) (rules_from table 0 rules) begin (i + 1)
   visit_is =
-      ap (λ (o : Option Row). kept_visit (keep_in fresh) (rules_from table 0 rules) o (state_at table numbers' index' c)) (sym (rows_at_element numbers' c.rows i there))
+      ap (λ (o : Maybe Row). kept_visit (keep_in fresh) (rules_from table 0 rules) o (state_at table numbers' index' c)) (sym (rows_at_element numbers' c.rows i there))
       ∙ ap (λ (s : State). kept_visit (keep_in fresh) (rules_from table 0 rules) (get_elem? s.rows i) s) (v.left.state v.few)
       ∙ ap (kept_after (keep_in fresh) (rules_from table 0 rules) begin) (sym (add-one i))
 

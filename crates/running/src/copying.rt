@@ -15,11 +15,7 @@ fn copy_record(rows: &[u32], i: usize, records: &mut [u32])
 {
     records[8 * i] = LETTER_R;
     records[8 * i + 1] = rows[7 * i] / 8;
-    let mut k: usize = 1;
-    while k < 7 {
-        records[8 * i + 1 + k] = rows[7 * i + k];
-        k += 1;
-    }
+    records[8 * i + 2..8 * i + 8].copy_from_slice(&rows[7 * i + 1..7 * i + 7]);
 }
 
 // Copies the first so many records.
@@ -27,9 +23,7 @@ pub(crate) fn copy_out(rows: &[u32], count: usize, records: &mut [u32])
     requires { Holds rows.now count (rows_at rows.now count) × (8 * count ≤ length records.old) }
     ensures { records.new ≡ lent_of (map row_line (rows_at rows.now count)) ++ drop (8 * count) records.old }
 {
-    let mut i: usize = 0;
-    while i < count {
+    for i in 0..count {
         copy_record(rows, i, records);
-        i += 1;
     }
 }

@@ -3,19 +3,18 @@ ghost use Rattle.std.specs.Prelude.{◌≡◌, ℕ, ◌+◌, ◌-◌, ◌*◌, �
 ghost use Rattle.rules.specs.Table.{TableFits, row_bytes, first_place};
 ghost use Rattle.rules.specs.Inner.Tests.{Decides};
 ghost use Rattle.carrying.specs.Carrying.{FiresOn, row_made};
-ghost use Rattle.running.specs.Inner.Held.{packed, PackedRow, row_at, rows_at, Stored, Grown};
+ghost use Rattle.running.specs.Inner.Held.{packed, PackedRow, row_at, rows_at, Stored, Grown, OrOver};
 ghost use Rattle.running.specs.Inner.Firing.{rule_at, head_no, row_no, RecordIn, Ready, value_from, with_made};
 
 use crate::records::{add, cell};
 use crate::visits::Counts;
-use crate::wide;
 
 // Byte `i` of rule `r`.
 pub(crate) fn rule_byte(table: &[u8; 16384], r: usize, i: usize) -> usize
     requires { (length table.now ≡ 16384) × (r < 256) × (i < 64) }
     ensures { (result ≡ get_or (row_bytes table.now r) i 0) × (result < 256) }
 {
-    wide::of_u8(table[64 * r + i])
+    usize::from(table[64 * r + i])
 }
 
 // Whether rule `r` fires on record `i`.
@@ -27,14 +26,12 @@ pub(crate) fn fires(rows: &[u32], i: usize, table: &[u8; 16384], rules: usize, r
     if rule_byte(table, r, 0) * 8 + width != cell(rows, i, 0) {
         return false;
     }
-    let mut k: usize = 0;
-    while k < width {
+    for k in 0..width {
         let mark = rule_byte(table, r, 2 + k);
         let place = rule_byte(table, r, 8 + mark);
         if cell(rows, i, 1 + k) != cell(rows, i, place) {
             return false;
         }
-        k += 1;
     }
     true
 }
@@ -78,16 +75,14 @@ fn made(
     let width = rule_byte(table, r, at + 1);
     let mut row = [0u32; 7];
     row[0] = (rule_byte(table, r, at) * 8 + width) as u32;
-    let mut k: usize = 0;
-    while k < width {
+    for k in 0..width {
         let mark = rule_byte(table, r, at + 2 + k);
         row[1 + k] = number(rows, i, table, rules, r, mark, low, next);
-        k += 1;
     }
     row
 }
 
-// Adds what the H lines make of record `i`, in their order. Answers how many records there are then; 4,097 where there is no room.
+// Adds what the H lines make of record `i`, in their order. Answers how many records there are then; None where there is no room.
 pub(crate) fn fire(
     rows: &mut [u32],
     index: &mut [u16],
@@ -97,23 +92,16 @@ pub(crate) fn fire(
     i: usize,
     low: usize,
     c: Counts,
-) -> usize
+) -> Option<usize>
     requires { Stored rows.old index.old c.by c.rows × (i < c.rows) × Ready table.now rules r low × (c.next ≤ 4294960000) × FiresOn (rule_at table.now r) (row_no rows.old i) }
-    ensures { Grown rows.old index.old c.by c.rows rows.new index.new result
-        (with_made c.next (rule_at table.now r) (row_no rows.old i) (rows_at rows.old c.rows)) }
+    ensures { OrOver (λ n. n) (λ n. Grown rows.old index.old c.by c.rows rows.new index.new n
+        (with_made c.next (rule_at table.now r) (row_no rows.old i) (rows_at rows.old c.rows))) result }
 {
-    let by = c.by;
-    let next = c.next;
     let heads = rule_byte(table, r, 28);
     let mut n = c.rows;
-    let mut h: usize = 0;
-    while h < heads {
-        let row = made(rows, i, table, rules, r, h, low, next);
-        n = add(rows, index, by, n, &row);
-        if 4096 < n {
-            return n;
-        }
-        h += 1;
+    for h in 0..heads {
+        let row = made(rows, i, table, rules, r, h, low, c.next);
+        n = add(rows, index, c.by, n, &row)?;
     }
-    n
+    Some(n)
 }

@@ -28,16 +28,14 @@ fn firings_of(
         × Stored rows.now index.new by count }
 {
     let mut n: usize = 0;
-    let mut i: usize = 0;
-    while i < count {
+    for i in 0..count {
         if fires(rows, i, table, rules, r) {
             let b = bucket(rows, i, table, rules, r, by);
-            if find(rows, index, n, table, rules, r, i, b) == n {
+            if find(rows, index, n, table, rules, r, i, b).is_none() {
                 note(index, n, r, i, b);
                 n += 1;
             }
         }
-        i += 1;
     }
     n
 }
@@ -55,11 +53,9 @@ pub(crate) fn firings(
     ensures { result ≡ firings_on 1 (rules_from table.now 0 rules) (rows_at rows.now count) }
 {
     let mut n: usize = 0;
-    let mut r: usize = 0;
-    while r < rules {
+    for r in 0..rules {
         clear(index, 8192, 4096);
         n += firings_of(rows, index, table, rules, r, count, by);
-        r += 1;
     }
     n
 }

@@ -1,6 +1,7 @@
 // Carrying the rules out: the records that the rules make of the table's rows.
 #![tactic(auto)]
 
+mod chain;
 mod copying;
 mod firing;
 mod firings;
@@ -10,7 +11,6 @@ mod pairs;
 mod records;
 mod rows;
 mod visits;
-mod wide;
 
 ghost use Rattle.std.specs.Prelude.{◌≡◌, ◌+◌, ◌≤◌, length};
 ghost use Rattle.judging.specs.Answer.{judge_refusal_number, judge_refusal_line};
@@ -19,23 +19,26 @@ ghost use Rattle.rules.specs.Table.{SheetHeld, TableFits, table_rules, rules_in}
 ghost use Rattle.carrying.specs.Contract.{CarryMeets};
 ghost use Rattle.running.specs.Held.{records_fit};
 ghost use Rattle.running.specs.Run.{RunMeets};
-ghost use Rattle.running.specs.Answer.{carry_says, run_says, carry_refusal_number, carry_refusal_line};
+ghost use Rattle.running.specs.Answer.{carry_says, run_says, carry_refusal_number, carry_refusal_line, run_refusal_of, carry_refusal_of};
 ghost use Rattle.running.specs.Inner.Begun.{RanWith};
+ghost use Rattle.running.specs.Inner.Held.{OrOver};
+ghost use Rattle.running.specs.Inner.Visits.{rows_held};
 ghost use Rattle.running.specs.Inner.Carry.{Settled};
 
-use judging::{JudgeAnswer, JudgeRefusal};
-use rules::RulesAnswer;
+use judging::{JudgeRefusal, Verdict};
+use rules::RulesRefusal;
+use sheet::RefusalNumbers;
 use visits::Counts;
 
 // How many records there are, and how many firings made them.
-#[derive(Drop)]
+#[derive(Clone, Copy)]
 pub struct Totals {
     pub records: usize,
     pub firings: usize,
 }
 
 // Why carrying out is refused.
-#[derive(Drop)]
+#[derive(Clone, Copy)]
 pub enum CarryRefusal {
     // Room for fewer than 4,096 records is lent.
     RecordsShort,
@@ -51,24 +54,9 @@ pub enum CarryRefusal {
     NumberOver,
 }
 
-// A refusal in the paper's numbers; line 0 where none is named.
-#[derive(Drop)]
-pub struct CarryRefusalNumbers {
-    pub number: usize,
-    pub line: usize,
-}
-
-#[derive(Drop)]
-pub enum CarryAnswer {
-    Carried(Totals),
-    Refused(CarryRefusal),
-}
-
-// What a run answers.
-#[derive(Drop)]
-pub enum RunAnswer {
-    // It ends.
-    Ended(Totals),
+// Why a run does not end.
+#[derive(Clone, Copy)]
+pub enum RunRefusal {
     // More than 4,096 records.
     RecordsOver,
     // A number over 99,999,999.
@@ -79,66 +67,101 @@ pub enum RunAnswer {
     RoomWrong,
 }
 
-// Carries the rules of lent lines out. Room for at least 4,096 records, as R lines of eight numbers, is lent. A good call puts the records there and changes nothing else; a refusal changes nothing.
-pub fn carry_out(lines: &[u32], records: &mut [u32]) -> CarryAnswer
-    ensures { CarryMeets lines.now records.old (carry_says result) records.new }
-{
-    if records.len() < 32768 {
-        return CarryAnswer::Refused(CarryRefusal::RecordsShort);
-    }
-    let mut places = no_places();
-    match judging::judge(lines, &mut places) {
-        JudgeAnswer::Settles(_) => carry_settled(lines, &mut places, records),
-        JudgeAnswer::Endless(_) => CarryAnswer::Refused(CarryRefusal::Endless),
-        JudgeAnswer::Refused(refusal) => CarryAnswer::Refused(judge_refused(refusal)),
+// A refusal of the rules as one of a run.
+impl From<RulesRefusal> for RunRefusal {
+    ghost from_gives = { λ r s. s ≡ run_refusal_of r };
+
+    fn from(refusal: RulesRefusal) -> RunRefusal {
+        match refusal {
+            RulesRefusal::LineWrong(line) => RunRefusal::LineWrong(line),
+            RulesRefusal::TableShort => RunRefusal::RoomWrong,
+        }
     }
 }
 
-// The number and the line of a refusal.
-pub fn refusal_numbers(refusal: CarryRefusal) -> CarryRefusalNumbers
+// A refusal of judging as one of carrying out, with the same number and line.
+impl From<JudgeRefusal> for CarryRefusal {
+    ghost from_gives = { λ r c. (carry_refusal_number c ≡ judge_refusal_number r) × (carry_refusal_line c ≡ judge_refusal_line r) };
+
+    fn from(refusal: JudgeRefusal) -> CarryRefusal {
+        match refusal {
+            JudgeRefusal::StepsShort => CarryRefusal::RecordsShort,
+            JudgeRefusal::LineWrong(line) => CarryRefusal::LineWrong(line),
+            JudgeRefusal::ShapesOver => CarryRefusal::ShapesOver,
+        }
+    }
+}
+
+// A refusal of a run as one of carrying out.
+impl From<RunRefusal> for CarryRefusal {
+    ghost from_gives = { λ r c. c ≡ carry_refusal_of r };
+
+    fn from(refusal: RunRefusal) -> CarryRefusal {
+        match refusal {
+            RunRefusal::RecordsOver => CarryRefusal::RecordsOver,
+            RunRefusal::NumberOver => CarryRefusal::NumberOver,
+            RunRefusal::LineWrong(line) => CarryRefusal::LineWrong(line),
+            RunRefusal::RoomWrong => CarryRefusal::RecordsShort,
+        }
+    }
+}
+
+// Carries the rules of lent lines out. Room for at least 4,096 records, as R lines of eight numbers, is lent. A good call puts the records there and changes nothing else; a refusal changes nothing.
+pub fn carry_out(lines: &[u32], records: &mut [u32]) -> Result<Totals, CarryRefusal>
+    ensures { CarryMeets lines.now records.old (carry_says result) records.new }
+{
+    if records.len() < 32768 {
+        return Err(CarryRefusal::RecordsShort);
+    }
+    let mut places = no_places();
+    match judging::judge(lines, &mut places)? {
+        Verdict::Settles(_) => carry_settled(lines, &mut places, records),
+        Verdict::Endless(_) => Err(CarryRefusal::Endless),
+    }
+}
+
+// The number and the line of a refusal; line 0 where none is named.
+pub fn refusal_numbers(refusal: CarryRefusal) -> RefusalNumbers
     ensures { (result.number ≡ carry_refusal_number refusal) × (result.line ≡ carry_refusal_line refusal) }
 {
     match refusal {
-        CarryRefusal::RecordsShort => CarryRefusalNumbers {
+        CarryRefusal::RecordsShort => RefusalNumbers {
             number: 12,
             line: 0,
         },
-        CarryRefusal::LineWrong(line) => CarryRefusalNumbers { number: 8, line },
-        CarryRefusal::ShapesOver => CarryRefusalNumbers {
+        CarryRefusal::LineWrong(line) => RefusalNumbers { number: 8, line },
+        CarryRefusal::ShapesOver => RefusalNumbers {
             number: 11,
             line: 0,
         },
-        CarryRefusal::Endless => CarryRefusalNumbers {
+        CarryRefusal::Endless => RefusalNumbers {
             number: 21,
             line: 0,
         },
-        CarryRefusal::RecordsOver => CarryRefusalNumbers {
+        CarryRefusal::RecordsOver => RefusalNumbers {
             number: 22,
             line: 0,
         },
-        CarryRefusal::NumberOver => CarryRefusalNumbers {
+        CarryRefusal::NumberOver => RefusalNumbers {
             number: 23,
             line: 0,
         },
     }
 }
 
-// Runs the rules of lent lines, without a verdict. Room for at least 4,096 records, seven numbers each, is lent: 8 × its kind + how many numbers it has, then its numbers; and 24,576 places, in which they are looked up. An answer Ended puts the records there first; what else the lent memory then holds, and what it holds with RecordsOver and NumberOver, is the run's choice.
-pub fn run(lines: &[u32], rows: &mut [u32], places: &mut [u16]) -> RunAnswer
+// Runs the rules of lent lines, without a verdict. Room for at least 4,096 records, seven numbers each, is lent: 8 × its kind + how many numbers it has, then its numbers; and 24,576 places, in which they are looked up. An answer Ok puts the records there first; what else the lent memory then holds, and what it holds with RecordsOver and NumberOver, is the run's choice.
+pub fn run(lines: &[u32], rows: &mut [u32], places: &mut [u16]) -> Result<Totals, RunRefusal>
     ensures { RunMeets lines.now rows.old rows.new (length places.old) (run_says result) }
 {
     if rows.len() < 28672 {
-        return RunAnswer::RoomWrong;
+        return Err(RunRefusal::RoomWrong);
     }
     if places.len() != 24576 {
-        return RunAnswer::RoomWrong;
+        return Err(RunRefusal::RoomWrong);
     }
     let mut table = [0u8; 16384];
-    match rules::rules_of(lines, &mut table) {
-        RulesAnswer::Rules(count) => run_rules(lines, rows, places, &table, count),
-        RulesAnswer::LineWrong(line) => RunAnswer::LineWrong(line),
-        RulesAnswer::TableShort => RunAnswer::RoomWrong,
-    }
+    let count = rules::rules_of(lines, &mut table)?;
+    run_rules(lines, rows, places, &table, count)
 }
 
 // Sets so many places, from `at` on, to 0.
@@ -146,11 +169,7 @@ fn clear(index: &mut [u16], at: usize, size: usize)
     requires { at + size ≤ length index.old }
     ensures { Part index.old at size (λ k. 0) index.new }
 {
-    let mut k: usize = 0;
-    while k < size {
-        index[at + k] = 0;
-        k += 1;
-    }
+    index[at..at + size].fill(0);
 }
 
 // Runs the rules of a sheet: once with all pairs kept, which counts the firings. Where these pairs have no room, again with those of rules with fresh marks kept, and the firings counted afterwards.
@@ -160,21 +179,20 @@ fn run_rules(
     index: &mut [u16],
     table: &[u8; 16384],
     rules: usize,
-) -> RunAnswer
+) -> Result<Totals, RunRefusal>
     requires { SheetHeld lines.now × records_fit rows.old × (length index.old ≡ 24576) × TableFits table.now rules × (table_rules table.now rules ≡ rules_in lines.now) }
     ensures { RunMeets lines.now rows.old rows.new (length index.old) (run_says result) }
 {
     clear(index, 0, 24576);
-    let noted = run_with(lines, rows, index, table, rules, 1);
+    let Some(noted) = run_with(lines, rows, index, table, rules, 1) else {
+        return run_again(lines, rows, index, table, rules);
+    };
+    if 100000000 < noted.next {
+        return Err(RunRefusal::NumberOver);
+    }
     let records = noted.rows;
     let firings = noted.pairs;
-    if records <= 4096 {
-        if 100000000 < noted.next {
-            return RunAnswer::NumberOver;
-        }
-        return RunAnswer::Ended(Totals { records, firings });
-    }
-    run_again(lines, rows, index, table, rules)
+    Ok(Totals { records, firings })
 }
 
 // Runs the rules of a sheet with the pairs of rules with fresh marks kept, which have room wherever the records have.
@@ -184,24 +202,23 @@ fn run_again(
     index: &mut [u16],
     table: &[u8; 16384],
     rules: usize,
-) -> RunAnswer
+) -> Result<Totals, RunRefusal>
     requires { SheetHeld lines.now × records_fit rows.old × (length index.old ≡ 24576) × TableFits table.now rules × (table_rules table.now rules ≡ rules_in lines.now) }
     ensures { RunMeets lines.now rows.old rows.new (length index.old) (run_says result) }
 {
     clear(index, 0, 24576);
-    let last = run_with(lines, rows, index, table, rules, 0);
-    let records = last.rows;
-    if 4096 < records {
-        return RunAnswer::RecordsOver;
-    }
+    let Some(last) = run_with(lines, rows, index, table, rules, 0) else {
+        return Err(RunRefusal::RecordsOver);
+    };
     if 100000000 < last.next {
-        return RunAnswer::NumberOver;
+        return Err(RunRefusal::NumberOver);
     }
+    let records = last.rows;
     let firings = firings::firings(rows, index, table, rules, records, last.by);
-    RunAnswer::Ended(Totals { records, firings })
+    Ok(Totals { records, firings })
 }
 
-// Begins a run and visits all records.
+// Begins a run and visits all records; None where there are more than 4,096.
 fn run_with(
     lines: &[u32],
     rows: &mut [u32],
@@ -209,24 +226,13 @@ fn run_with(
     table: &[u8; 16384],
     rules: usize,
     least: usize,
-) -> Counts
+) -> Option<Counts>
     requires { SheetHeld lines.now × records_fit rows.old × Clear index.old 24576 × TableFits table.now rules × (table_rules table.now rules ≡ rules_in lines.now) × (least ≤ 1) }
-    ensures { RanWith lines.now rows.old table.now rules least rows.new index.new result }
+    ensures { OrOver rows_held (λ d. RanWith lines.now rows.old table.now rules least rows.new index.new d) result }
 {
     let fresh = marks::fresh_marks(table, rules, least);
     let first = rows::begin(lines, rows, index);
     visits::visit_all(rows, index, table, rules, &fresh, first)
-}
-
-// A refusal of judging as one of carrying out, with the same number and line.
-pub fn judge_refused(refusal: JudgeRefusal) -> CarryRefusal
-    ensures { (carry_refusal_number result ≡ judge_refusal_number refusal) × (carry_refusal_line result ≡ judge_refusal_line refusal) }
-{
-    match refusal {
-        JudgeRefusal::StepsShort => CarryRefusal::RecordsShort,
-        JudgeRefusal::LineWrong(line) => CarryRefusal::LineWrong(line),
-        JudgeRefusal::ShapesOver => CarryRefusal::ShapesOver,
-    }
 }
 
 // Room for 4,096 records, seven numbers each.
@@ -244,19 +250,16 @@ fn no_places() -> [u16; 24576]
 }
 
 // Carries the rules of a sheet out that settles.
-fn carry_settled(lines: &[u32], places: &mut [u16], records: &mut [u32]) -> CarryAnswer
+fn carry_settled(
+    lines: &[u32],
+    places: &mut [u16],
+    records: &mut [u32],
+) -> Result<Totals, CarryRefusal>
     requires { Settled lines.now records.old × (length places.old ≡ 24576) }
     ensures { CarryMeets lines.now records.old (carry_says result) records.new }
 {
     let mut rows = no_rows();
-    match run(lines, &mut rows, places) {
-        RunAnswer::Ended(totals) => {
-            copying::copy_out(&rows, totals.records, records);
-            CarryAnswer::Carried(totals)
-        }
-        RunAnswer::RecordsOver => CarryAnswer::Refused(CarryRefusal::RecordsOver),
-        RunAnswer::NumberOver => CarryAnswer::Refused(CarryRefusal::NumberOver),
-        RunAnswer::LineWrong(line) => CarryAnswer::Refused(CarryRefusal::LineWrong(line)),
-        RunAnswer::RoomWrong => CarryAnswer::Refused(CarryRefusal::RecordsShort),
-    }
+    let totals = run(lines, &mut rows, places)?;
+    copying::copy_out(&rows, totals.records, records);
+    Ok(totals)
 }

@@ -13,14 +13,10 @@ fn top(table: &[u8; 16384], r: usize, at: usize, count: usize, m: usize) -> usiz
     requires { (length table.now ≡ 16384) × (r < 256) × (at + count ≤ 64) }
     ensures { result ≡ top_mark m (take count (drop at (row_bytes table.now r))) }
 {
+    let from = 64 * r + at;
     let mut t = m;
-    let mut k: usize = 0;
-    while k < count {
-        let mark = rule_byte(table, r, at + k);
-        if t < mark {
-            t = mark;
-        }
-        k += 1;
+    for &mark in &table[from..from + count] {
+        t = t.max(usize::from(mark));
     }
     t
 }
@@ -32,12 +28,10 @@ fn top_heads(table: &[u8; 16384], rules: usize, r: usize, m: usize) -> usize
 {
     let heads = rule_byte(table, r, 28);
     let mut t = m;
-    let mut h: usize = 0;
-    while h < heads {
+    for h in 0..heads {
         let at = 32 + 8 * h;
         let count = rule_byte(table, r, at + 1);
         t = top(table, r, at + 2, count, t);
-        h += 1;
     }
     t
 }
@@ -48,24 +42,13 @@ pub(crate) fn fresh_marks(table: &[u8; 16384], rules: usize, least: usize) -> [u
     ensures { Prepared table.now rules result × Keeping table.now rules least result }
 {
     let mut fresh = [0u8; 1024];
-    let mut r: usize = 0;
-    while r < rules {
+    for r in 0..rules {
         let low = top(table, r, 2, rule_byte(table, r, 1), 0);
         let new = top_heads(table, rules, r, low) - low;
         fresh[r] = low as u8;
         fresh[256 + r] = new as u8;
-        fresh[512 + r] = larger(least, new) as u8;
+        fresh[512 + r] = least.max(new) as u8;
         fresh[768 + r] = rule_byte(table, r, 0) as u8;
-        r += 1;
     }
     fresh
-}
-
-fn larger(a: usize, b: usize) -> usize
-    ensures { result ≡ max a b }
-{
-    if a < b {
-        return b;
-    }
-    a
 }

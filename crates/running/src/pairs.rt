@@ -2,15 +2,15 @@
 ghost use Rattle.std.specs.Prelude.{◌≡◌, cond, ℕ, ◌+◌, ◌-◌, ◌*◌, ◌<◌, ◌≤◌, eqb, length, get_or, set};
 ghost use Rattle.rules.specs.Table.{TableFits};
 ghost use Rattle.rules.specs.Inner.Tests.{Decides};
-ghost use Rattle.running.specs.Inner.Chains.{mixed, FoundAt};
+ghost use Rattle.running.specs.Inner.Chains.{mixed, FoundIn};
 ghost use Rattle.running.specs.Inner.Held.{row_at, Stored};
 ghost use Rattle.running.specs.Inner.Firing.{rule_at, RecordIn};
 ghost use Rattle.running.specs.Inner.Pairs.{pair_bucket, SameCarried, IsPair, RecordsIn, InBucket};
 
+use crate::chain::find_in;
 use crate::firing::rule_byte;
 use crate::hash::mix;
 use crate::records::{cell, push};
-use crate::wide;
 
 fn mix_where(source: usize, by: usize, h: usize, x: usize) -> usize
     requires { (by < 2147483648) × (h < 4294967296) × (x < 4294967296) }
@@ -35,11 +35,9 @@ pub(crate) fn bucket(
     ensures { (result ≡ pair_bucket by (rule_at table.now r) r (row_at rows.now i)) × (result < 4096) }
 {
     let mut h = mix(by, 1, r);
-    let mut p: usize = 1;
-    while p < 7 {
+    for p in 1..7 {
         let source = rule_byte(table, r, 21 + p);
         h = mix_where(source, by, h, cell(rows, i, p));
-        p += 1;
     }
     h / 1048576
 }
@@ -47,13 +45,7 @@ pub(crate) fn bucket(
 fn differ(source: usize, x: usize, y: usize) -> bool
     ensures { Decides ((source ≡ 1) × (x ≡ y → ⊥)) result }
 {
-    if source != 1 {
-        return false;
-    }
-    if x == y {
-        return false;
-    }
-    true
+    source == 1 && x != y
 }
 
 // Whether the carried values of rule `r` are the same in two records.
@@ -61,13 +53,11 @@ fn same(rows: &[u32], i: usize, j: usize, table: &[u8; 16384], rules: usize, r: 
     requires { RecordIn rows.now i × RecordIn rows.now j × TableFits table.now rules × (r < rules) }
     ensures { Decides (SameCarried (rule_at table.now r) (row_at rows.now i) (row_at rows.now j)) result }
 {
-    let mut p: usize = 1;
-    while p < 7 {
+    for p in 1..7 {
         let source = rule_byte(table, r, 21 + p);
         if differ(source, cell(rows, i, p), cell(rows, j, p)) {
             return false;
         }
-        p += 1;
     }
     true
 }
@@ -85,17 +75,14 @@ fn is_pair(
     requires { RecordIn rows.now i × (j < 4096) × (length index.now ≡ 24576) × RecordIn rows.now (get_or index.now (20480 + j) 0) × TableFits table.now rules × (r < rules) }
     ensures { Decides (IsPair table.now rows.now index.now r i j) result }
 {
-    if wide::of_u16(index[16384 + j]) != r {
+    if usize::from(index[16384 + j]) != r {
         return false;
     }
-    let on = wide::of_u16(index[20480 + j]);
-    if same(rows, on, i, table, rules, r) {
-        return true;
-    }
-    false
+    let on = usize::from(index[20480 + j]);
+    same(rows, on, i, table, rules, r)
 }
 
-// The place of the pair of rule `r` and the carried values of record `i`, whose bucket is `b`; `count` where there is none.
+// The place of the pair of rule `r` and the carried values of record `i`, whose bucket is `b`; None where there is none.
 pub(crate) fn find(
     rows: &[u32],
     index: &[u16],
@@ -105,20 +92,21 @@ pub(crate) fn find(
     r: usize,
     i: usize,
     b: usize,
-) -> usize
+) -> Option<usize>
     requires { RecordIn rows.now i × RecordsIn rows.now index.now count × TableFits table.now rules × (r < rules) × (b < 4096)
         × InBucket table.now rows.now index.now rules count r i b }
-    ensures { FoundAt (IsPair table.now rows.now index.now r i) count result }
+    ensures { FoundIn (IsPair table.now rows.now index.now r i) count result }
 {
-    let mut at = wide::of_u16(index[8192 + b]);
-    while at != 0 {
-        let j = at - 1;
-        if is_pair(rows, index, j, table, rules, r, i) {
-            return j;
-        }
-        at = wide::of_u16(index[12288 + j]);
-    }
-    count
+    find_in(
+        index,
+        2,
+        b,
+        count,
+        |j|
+            requires { RecordIn rows.now i × (j < 4096) × (length index.now ≡ 24576) × RecordIn rows.now (get_or index.now (20480 + j) 0) × TableFits table.now rules × (r < rules) }
+            ensures { Decides (IsPair table.entry.now rows.entry.now index.entry.now r i j) result }
+        { is_pair(rows, index, j, table, rules, r, i) },
+    )
 }
 
 // Notes a pair at place `count`.

@@ -6,18 +6,18 @@ ghost use Rattle.patterns.specs.Pattern.{add as addTo};
 ghost use Rattle.carrying.specs.Carrying.{Row-discrete};
 ghost use Rattle.rules.specs.Inner.Bytes.{Part};
 ghost use Rattle.rules.specs.Inner.Tests.{Decides};
-ghost use Rattle.running.specs.Inner.Chains.{bucket_of, FoundAt};
-ghost use Rattle.running.specs.Inner.Held.{records_fit, row_at, unpacked, PackedRow, rows_at, Stored, Grown};
+ghost use Rattle.running.specs.Inner.Chains.{bucket_of, FoundIn};
+ghost use Rattle.running.specs.Inner.Held.{records_fit, row_at, unpacked, PackedRow, rows_at, Stored, Grown, OrOver};
 
+use crate::chain::find_in;
 use crate::hash::mix;
-use crate::wide;
 
 // Number `k` of the seven of record `i`.
 pub(crate) fn cell(rows: &[u32], i: usize, k: usize) -> usize
     requires { (i < 4096) × (k < 7) × (7 * i + 7 ≤ length rows.now) }
     ensures { (result ≡ get_or (row_at rows.now i) k 0) × (result < 4294967296) }
 {
-    wide::of_u32(rows[7 * i + k])
+    rows[7 * i + k] as usize
 }
 
 // The bucket of a row.
@@ -26,10 +26,8 @@ fn bucket(by: usize, row: &[u32]) -> usize
     ensures { (result ≡ bucket_of by row.now) × (result < 4096) }
 {
     let mut h: usize = 0;
-    let mut k: usize = 0;
-    while k < row.len() {
-        h = mix(by, h, wide::of_u32(row[k]));
-        k += 1;
+    for &x in row {
+        h = mix(by, h, x as usize);
     }
     h / 1048576
 }
@@ -39,30 +37,31 @@ fn is_row(rows: &[u32], i: usize, row: &[u32]) -> bool
     requires { (length row.now ≡ 7) × (i < 4096) × (7 * i + 7 ≤ length rows.now) }
     ensures { Decides (row_at rows.now i ≡ row.now) result }
 {
-    let mut k: usize = 0;
-    while k < 7 {
-        if rows[7 * i + k] != row[k] {
-            return false;
-        }
-        k += 1;
-    }
-    true
+    &rows[7 * i..7 * i + 7] == row
 }
 
-// The place of a row in bucket `b`, which is its own; `count` where it is not there.
-fn find(rows: &[u32], index: &[u16], by: usize, count: usize, row: &[u32], b: usize) -> usize
+// The place of a row in bucket `b`, which is its own; None where it is not there.
+fn find(
+    rows: &[u32],
+    index: &[u16],
+    by: usize,
+    count: usize,
+    row: &[u32],
+    b: usize,
+) -> Option<usize>
     requires { Stored rows.now index.now by count × (length row.now ≡ 7) × (b ≡ bucket_of by row.now) × (b < 4096) }
-    ensures { FoundAt (λ j. row_at rows.now j ≡ row.now) count result }
+    ensures { FoundIn (λ j. row_at rows.now j ≡ row.now) count result }
 {
-    let mut at = wide::of_u16(index[b]);
-    while at != 0 {
-        let i = at - 1;
-        if is_row(rows, i, row) {
-            return i;
-        }
-        at = wide::of_u16(index[4096 + i]);
-    }
-    count
+    find_in(
+        index,
+        0,
+        b,
+        count,
+        |i|
+            requires { (length row.now ≡ 7) × (i < 4096) × (7 * i + 7 ≤ length rows.now) }
+            ensures { Decides (row_at rows.entry.now i ≡ row.entry.now) result }
+        { is_row(rows, i, row) },
+    )
 }
 
 // One place more, `count`, in bucket `b` of the chains whose beginnings are section `c`.
@@ -79,33 +78,29 @@ fn put(rows: &mut [u32], i: usize, row: &[u32])
     requires { records_fit rows.old × (i < 4096) × (length row.now ≡ 7) }
     ensures { Part rows.old (7 * i) 7 (λ (k : ℕ). get_or row.now k 0) rows.new }
 {
-    let mut k: usize = 0;
-    while k < 7 {
-        rows[7 * i + k] = row[k];
-        k += 1;
-    }
+    rows[7 * i..7 * i + 7].copy_from_slice(row);
 }
 
-// Adds a record unless it is there. Answers how many there are then; 4,097 where there is no room.
+// Adds a record unless it is there. Answers how many there are then; None where there is no room.
 pub(crate) fn add(
     rows: &mut [u32],
     index: &mut [u16],
     by: usize,
     count: usize,
     row: &[u32],
-) -> usize
+) -> Option<usize>
     requires { Stored rows.old index.old by count × (length row.now ≡ 7) × PackedRow row.now }
-    ensures { Grown rows.old index.old by count rows.new index.new result
-        (addTo Row-discrete (unpacked row.now) (rows_at rows.old count)) }
+    ensures { OrOver (λ n. n) (λ n. Grown rows.old index.old by count rows.new index.new n
+        (addTo Row-discrete (unpacked row.now) (rows_at rows.old count))) result }
 {
     let b = bucket(by, row);
-    if find(rows, index, by, count, row, b) < count {
-        return count;
+    if find(rows, index, by, count, row, b).is_some() {
+        return Some(count);
     }
     if count == 4096 {
-        return 4097;
+        return None;
     }
     put(rows, count, row);
     push(index, 0, count, b);
-    count + 1
+    Some(count + 1)
 }

@@ -10,22 +10,16 @@ ghost use Rattle.running.specs.Inner.Begun.{RowsIn, Begun};
 
 use crate::records::add;
 use crate::visits::Counts;
-use crate::wide;
 use sheet::{LETTER_K, LETTER_R};
 
-// The largest of `m` and the six numbers of line `n`.
-fn largest_in(lines: &[u32], n: usize, m: usize) -> usize
-    requires { 8 * n + 8 ≤ length lines.now }
-    ensures { result ≡ max m (largest (take 6 (drop (8 * n + 2) lines.now))) }
+// The largest of `m` and the six numbers of a line.
+fn largest_in(line: &[u32; 8], m: usize) -> usize
+    requires { length line.now ≡ 8 }
+    ensures { result ≡ max m (largest (take 6 (drop 2 line.now))) }
 {
     let mut t = m;
-    let mut k: usize = 2;
-    while k < 8 {
-        let x = wide::of_u32(lines[8 * n + k]);
-        if t < x {
-            t = x;
-        }
-        k += 1;
+    for &x in &line[2..] {
+        t = t.max(x as usize);
     }
     t
 }
@@ -36,41 +30,37 @@ fn largest_value(lines: &[u32]) -> usize
     ensures { (result ≡ largest (numbers_in (table_rows (lines_in lines.now)))) × (result ≤ 99999999) }
 {
     let mut t: usize = 0;
-    let mut n: usize = 0;
-    while 8 * n < lines.len() {
-        if lines[8 * n] == LETTER_R {
-            t = largest_in(lines, n, t);
+    for line in lines.as_chunks::<8>().0 {
+        if line[0] == LETTER_R {
+            t = largest_in(line, t);
         }
-        n += 1;
     }
     t
 }
 
 // A row with its zeros filled, and the number after the last one given.
-#[derive(Drop)]
+#[derive(Clone, Copy)]
 struct FilledRow {
     row: [u32; 7],
     next: usize,
 }
 
-// The seven numbers of the row at line `n`, whose kind has this width. Each 0 gets the next number.
-fn row_at(lines: &[u32], n: usize, width: usize, next: usize) -> FilledRow
-    requires { (8 * n + 8 ≤ length lines.now) × (width ≤ 6) × (get_or lines.now (8 * n + 1) 0 ≤ 64) × (next ≤ 4294960000) }
-    ensures { (result.row ≡ packed (record { kind = get_or lines.now (8 * n + 1) 0; numbers = filled next (row_numbers lines.now n width) }))
-        × (result.next ≡ next + zeros (row_numbers lines.now n width)) }
+// The seven numbers of a row's line, whose kind has this width. Each 0 gets the next number.
+fn row_at(line: &[u32; 8], width: usize, next: usize) -> FilledRow
+    requires { (length line.now ≡ 8) × (width ≤ 6) × (get_or line.now 1 0 ≤ 64) × (next ≤ 4294960000) }
+    ensures { (result.row ≡ packed (record { kind = get_or line.now 1 0; numbers = filled next (take width (drop 2 line.now)) }))
+        × (result.next ≡ next + zeros (take width (drop 2 line.now))) }
 {
     let mut row = [0u32; 7];
-    row[0] = (wide::of_u32(lines[8 * n + 1]) * 8 + width) as u32;
+    row[0] = (line[1] as usize * 8 + width) as u32;
     let mut given = next;
-    let mut k: usize = 0;
-    while k < width {
-        let mut x = lines[8 * n + 2 + k];
+    for k in 0..width {
+        let mut x = line[2 + k];
         if x == 0 {
             x = given as u32;
             given += 1;
         }
         row[1 + k] = x;
-        k += 1;
     }
     FilledRow { row, next: given }
 }
@@ -83,19 +73,16 @@ fn put_rows(lines: &[u32], rows: &mut [u32], index: &mut [u16], by: usize, first
     let mut widths = [0u32; 65];
     let mut count: usize = 0;
     let mut next = first;
-    let mut n: usize = 0;
-    while 8 * n < lines.len() {
-        let letter = lines[8 * n];
-        let kind = lines[8 * n + 1] as usize;
-        if letter == LETTER_K {
-            widths[kind] = lines[8 * n + 2];
-        } else if letter == LETTER_R {
-            let filled = row_at(lines, n, wide::of_u32(widths[kind]), next);
-            let row = filled.row;
+    for line in lines.as_chunks::<8>().0 {
+        let kind = line[1] as usize;
+        if line[0] == LETTER_K {
+            widths[kind] = line[2];
+        } else if line[0] == LETTER_R {
+            let filled = row_at(line, widths[kind] as usize, next);
             next = filled.next;
-            count = add(rows, index, by, count, &row);
+            // There are at most 1,024 rows.
+            count = add(rows, index, by, count, &filled.row).unwrap();
         }
-        n += 1;
     }
     Counts {
         rows: count,

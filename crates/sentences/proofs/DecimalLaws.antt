@@ -55,6 +55,18 @@ length-decimal_one n h = ap length (decimal_one n h)
 pub length-decimal_more : (n : ℕ) → 10 ≤ n → length (decimal n) ≡ length (decimal (n / 10)) + 1
 length-decimal_more n h = ap length (decimal_more n h) ∙ length-append (decimal (n / 10)) ((48 + n % 10) ∷ [])
 
+power-some : (k : ℕ) → 1 ≤ 10 ^ k
+power-some zero = omega arith
+power-some (suc k) = omega (arith, pow-suc 10 k, power-some k)
+
+-- A number has one digit more than the largest power of 10 in it.
+pub length-decimal_power : (k n : ℕ) → 10 ^ k ≤ n → n < 10 * 10 ^ k → length (decimal n) ≡ k + 1
+length-decimal_power zero n low high = length-decimal_one n (omega arith)
+length-decimal_power (suc k) n low high =
+    let e = pow-suc 10 k in
+    let some = power-some k in
+    omega (arith, length-decimal_more n (omega arith), length-decimal_power k (n / 10) (omega arith) (omega arith))
+
 -- A number below a power of 10 has no more digits than the power says.
 pub length-decimal_most : (k n : ℕ) → n < 10 ^ suc k → length (decimal n) ≤ suc k
 length-decimal_most zero n h = omega (arith, length-decimal_one n (omega arith))

@@ -4,6 +4,7 @@ use mathlib.Core.Bool.{Bool, true, false, cond, false≢true}
 use mathlib.Core.List.{List}
 use Prim.Native.Nat.{ℕ, ◌*◌, ◌/◌, ◌≤◌}
 use native.Mathlib.Omega.{arith}
+use Rattle.std.proofs.Common.{Ok}
 use lib.Dec.{ltb}
 use lib.ListN.{length}
 use borrow.Author.Tests.{ltb-false}
@@ -11,8 +12,6 @@ use Rattle.patterns.specs.Outcome.{Outcome, good, refused, counted}
 use Rattle.sheet.specs.Line.{Line, text_of}
 use Rattle.sheet.specs.Read.{text_limit, sheet_in, with_room, read_of, ReadMeets}
 use Rattle.sheet.specs.Write.{sheet_held, fits, written, write_of, WriteMeets}
-use Rattle.sheet.specs.declared.ReadAnswer.TheVariants.{Lines}
-use Rattle.sheet.specs.declared.WriteAnswer.TheVariants.{Bytes}
 
 room_counts : (room n : ℕ) (o : Outcome (List Line)) → good n ≡ counted (with_room room o) → n ≤ room
 room_counts room n (refused number line) e = absurd (false≢true cc)
@@ -23,7 +22,7 @@ room_counts room n (good ls) e = go (ltb room (length ls)) refl e
     go false q e = let s : n ≡ length ls = cc in omega (arith, ltb-false room (length ls) q)
 
 -- As many lines as read counts were lent.
-pub read_counts : (text before : List ℕ) (n : ℕ) (after : List ℕ) → ReadMeets text before (Lines n) after → 8 * n ≤ length before
+pub read_counts : (text before : List ℕ) (n : ℕ) (after : List ℕ) → ReadMeets text before (Ok n) after → 8 * n ≤ length before
 unfolding read_of
 read_counts text before n after m = let h = go (ltb text_limit (length text)) m.says in omega (arith, h)
   where
@@ -40,7 +39,7 @@ fits_counts room n text e = go (ltb text_limit (length text)) (ltb room (length 
     go false false q e = let s : n ≡ length text = cc in omega (arith, ltb-false room (length text) q)
 
 -- As many bytes as write counts were lent.
-pub write_counts : (numbers before : List ℕ) (n : ℕ) (after : List ℕ) → WriteMeets numbers before (Bytes n) after → n ≤ length before
+pub write_counts : (numbers before : List ℕ) (n : ℕ) (after : List ℕ) → WriteMeets numbers before (Ok n) after → n ≤ length before
 unfolding write_of
 write_counts numbers before n after m = go (sheet_held numbers) m.says
   where

@@ -56,14 +56,14 @@ fill-begun numbers text widths f size clear =
       filled = paste-zero text 0 [];
     }
 
-module _ (numbers text₀ text widths : List ℕ) (at n : ℕ) (f : Fills numbers text₀ text widths at n) where
+module _ {numbers text₀ text widths : List ℕ} {at n : ℕ} (f : Fills numbers text₀ text widths at n) where
   done_fits : length f.done + length (text_of f.rest) ≤ length text₀
   done_fits = let a = f.fit in omega (arith, ap length f.whole, length-append f.done (text_of f.rest))
 
   pub fill_long : length text ≡ length text₀
   fill_long = ap length f.filled ∙ length-put text₀ 0 f.done (omega (arith, done_fits))
 
-  pub fill_end : length numbers ≤ 8 * n → TextFilled numbers text₀ text
+  pub fill_end : length numbers < 8 * n + 8 → TextFilled numbers text₀ text
   fill_end over = go f.rest refl
     where
       go : (rest : List Line) → f.rest ≡ rest → TextFilled numbers text₀ text
@@ -86,7 +86,7 @@ pub record Putting (numbers text₀ text widths : List ℕ) (at n : ℕ) (x : Li
   pub declares : get_or x 0 0 ≡ 75 → (get_or x 1 0 < 65) × (get_or x 2 0 < 256)
   pub next : (after : List ℕ) → LinePut text at x fields after → Fills numbers text₀ after (declared_in widths x) (at + (9 * fields + 11)) (n + 1)
 
-module _ (numbers text₀ text widths : List ℕ) (at n : ℕ) (f : Fills numbers text₀ text widths at n) where
+module _ {numbers text₀ text widths : List ℕ} {at n : ℕ} (f : Fills numbers text₀ text widths at n) where
   module _ (l : Line) (rest : List Line) (e : f.rest ≡ l ∷ rest) where
     next_left : from n numbers ≡ lent l ++ lent_of rest
     next_left = f.left ∙ ap lent_of e
@@ -97,7 +97,7 @@ module _ (numbers text₀ text widths : List ℕ) (at n : ℕ) (f : Fills number
     next_room : length f.done + length (render l) ≤ length text₀
     next_room =
         omega
-        (arith, done_fits numbers text₀ text widths at n f, ap (λ (r : List Line). length (text_of r)) e, length-append (render l) (text_of rest))
+        (arith, done_fits f, ap (λ (r : List Line). length (text_of r)) e, length-append (render l) (text_of rest))
 
     line_again : line_of (length l.numbers) (lent l) ≡ l
     unfolding lent
@@ -109,7 +109,7 @@ module _ (numbers text₀ text widths : List ℕ) (at n : ℕ) (f : Fills number
         let r : length (render l) ≡ 9 * length l.numbers + 11 = length-render l in
         let h = f.here in
         let g = next_room in
-        let long : length text ≡ length text₀ = fill_long numbers text₀ text widths at n f in
+        let long : length text ≡ length text₀ = fill_long f in
         let w : (l.letter ≡ 75 → (l.kind < 65) × (get_or (padded 6 l.numbers) 0 0 < 256)) =
         λ k. let q = kind_width f.before l k goes_on.1 in (q.0, let z = first_padded 5 l.numbers in let y = q.1 in omega arith) in
         record {
@@ -152,11 +152,6 @@ module _ (numbers text₀ text widths : List ℕ) (at n : ℕ) (f : Fills number
   next_line h (l ∷ more) e = (l, more, e)
 
   module _ (more : 8 * n < length numbers) where
-    pub fill_eight : 8 * n + 8 ≤ length numbers
-    fill_eight =
-        let (l, rest, e) = next_line more f.rest refl in
-        omega (arith, ap length (next_left l rest e), length-append (lent l) (lent_of rest), length-lent l, length-drop (8 * n) numbers)
-
     pub fill-line :
         (x : List ℕ) → x ≡ take 8 (from n numbers) → (fields : ℕ) → fields ≡ used_of widths x → Putting numbers text₀ text widths at n x fields
     fill-line x is fields u =

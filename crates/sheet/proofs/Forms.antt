@@ -6,28 +6,18 @@ use mathlib.Core.Option.{Option, none, some}
 use Prim.Native.Nat.{ℕ, zero, suc, ◌+◌, ◌-◌, ◌*◌, ◌≤◌, ◌<◌}
 use native.Mathlib.Numerals.{add-one}
 use native.Mathlib.Omega.{arith}
-use lib.ListN.{length, get_or, take, drop, set, replicate, length-append}
+use Rattle.std.proofs.Common.{Some, None}
+use lib.ListN.{length, get_or, take, drop, set, length-append}
 use lib.Seq.{drop-drop}
-use borrow.Author.Tests.{eq-eqb, ne_eqb, le-leb, lt-leb}
+use borrow.Author.Tests.{eq-eqb, ne_eqb}
 use Rattle.patterns.proofs.ListLaws.{length-padded}
 use Rattle.patterns.specs.Outcome.{padded}
 use Rattle.columns.specs.Column.{number_in}
-use Rattle.sheet.specs.Line.{with_fields, form_of, form_says, known, joined, numbers_in, line_with, column_count, line_in, lent}
+use Rattle.sheet.specs.Line.{form_of, form_says, known, joined, numbers_in, line_with, column_count, line_in, lent}
 use Rattle.sheet.specs.Inner.Promises.{ParsedAs}
 use Rattle.sheet.specs.declared.Form.{Form}
-use Rattle.sheet.specs.declared.Form.TheVariants.{Unknown}
 use Rattle.sheet.proofs.FormLaws.{known_columns}
 use Rattle.sheet.proofs.Lines.{joined_is}
-
--- Two to seven columns, and fewer, and more.
-pub with_fields_inside : (c : ℕ) (form : ℕ → Form) → 2 ≤ c → c < 8 → form (c - 1) ≡ with_fields c form
-with_fields_inside c form low high = simp (le-leb 2 c low, le-leb c 7 (omega arith))
-
-pub with_fields_below : (c : ℕ) (form : ℕ → Form) → c < 2 → Unknown ≡ with_fields c form
-with_fields_below c form h = simp (lt-leb 2 c h)
-
-pub with_fields_above : (c : ℕ) (form : ℕ → Form) → 8 ≤ c → Unknown ≡ with_fields c form
-with_fields_above c form h = simp (le-leb 2 c (omega arith), lt-leb c 7 h)
 
 joined-none : (x : Option ℕ) → joined x none ≡ none
 joined-none none = refl
@@ -65,11 +55,10 @@ pub record Whole (line : List ℕ) (columns letter : ℕ) (form : Form) : Type 0
   pub size : length line ≡ 9 * columns + 2
   pub end : get_or line (length line - 1) 0 ≡ 10
   pub letter_is : letter ≡ get_or line 0 0
-  pub form_is : form ≡ form_of letter columns
-  pub known_is : known form ≡ true
+  pub form_is : Some form ≡ form_of letter columns
 
 pub whole_columns : (line : List ℕ) (columns letter : ℕ) (form : Form) → Whole line columns letter form → (2 ≤ columns) × (columns ≤ 7)
-whole_columns line columns letter form w = known_columns letter columns (ap known (sym w.form_is) ∙ w.known_is)
+whole_columns line columns letter form w = known_columns letter columns (ap known (sym w.form_is))
 
 -- What the first c columns say, as lent numbers.
 pub record Filled (line : List ℕ) (letter : ℕ) (numbers : List ℕ) (c : ℕ) : Type 0 where
@@ -77,9 +66,6 @@ pub record Filled (line : List ℕ) (letter : ℕ) (numbers : List ℕ) (c : ℕ
   pub read_is : numbers_in c (drop 1 line) ≡ some read
   pub count : length read ≡ c
   pub numbers_are : numbers ≡ letter ∷ padded 7 read
-
-pub none_filled : (line : List ℕ) (letter : ℕ) (numbers : List ℕ) → numbers ≡ replicate 8 0 → Filled line letter (set numbers 0 letter) 0
-none_filled line letter numbers e = record { read = []; read_is = refl; count = refl; numbers_are = ap (λ (ns : List ℕ). set ns 0 letter) e }
 
 pub filled_size : {line numbers : List ℕ} {letter c : ℕ} → Filled line letter numbers c → length numbers ≡ 8
 filled_size f = ap length f.numbers_are ∙ ap suc (length-padded 7 f.read)
@@ -111,7 +97,7 @@ pub end_wrong : (line : List ℕ) → (get_or line (length line - 1) 0 ≡ 10 �
 unfolding line_in
 end_wrong line h = simp (ne_eqb _ _ h, and-false)
 
-pub form_wrong : (line : List ℕ) → form_of (get_or line 0 0) (column_count (length line)) ≡ Unknown → line_in line ≡ none
+pub form_wrong : (line : List ℕ) → form_of (get_or line 0 0) (column_count (length line)) ≡ None → line_in line ≡ none
 unfolding line_in
 form_wrong line h = simp (h, and-false)
 
@@ -119,7 +105,7 @@ whole_line : (line : List ℕ) (columns letter : ℕ) (form : Form) → Whole li
     → line_in line ≡ line_with letter (numbers_in columns (drop 1 line))
 unfolding line_in
 whole_line line columns letter form w =
-    let form_known : known (form_of (get_or line 0 0) (column_count (length line))) ≡ true = cc (w.known_is, w.form_is, w.letter_is, w.count) in
+    let form_known : known (form_of (get_or line 0 0) (column_count (length line))) ≡ true = rw (← w.letter_is, ← w.count, ← w.form_is) in
     let size : length line ≡ 9 * column_count (length line) + 2 = cc (w.size, w.count) in
     rw (eq-eqb (length line) (9 * column_count (length line) + 2) size, eq-eqb (get_or line (length line - 1) 0) 10 w.end, form_known, ← w.count, ← w.letter_is)
 
@@ -129,18 +115,18 @@ column_wrong line columns letter c form w h e =
     whole_line line columns letter form w
     ∙ rw (numbers_in-none columns c (drop 1 line) h (rw column_at e))
 
-pub parsed_unknown : (line : List ℕ) (form : Form) (numbers : List ℕ) → line_in line ≡ none → form ≡ Unknown → ParsedAs (line_in line) form numbers
-parsed_unknown line form numbers e h = rw e (ap form_says h)
+pub parsed_none : (line numbers : List ℕ) → line_in line ≡ none → ParsedAs (line_in line) None numbers
+parsed_none line numbers e = rw e
 
-parsed_read : (line : List ℕ) (columns letter : ℕ) (form : Form) (numbers read : List ℕ) → 1 ≤ columns → length read ≡ columns → form ≡ form_of letter columns
-    → line_in line ≡ line_with letter (some read) → numbers ≡ letter ∷ padded 7 read → ParsedAs (line_in line) form numbers
+parsed_read : (line : List ℕ) (columns letter : ℕ) (form : Form) (numbers read : List ℕ) → 1 ≤ columns → length read ≡ columns → Some form ≡ form_of letter columns
+    → line_in line ≡ line_with letter (some read) → numbers ≡ letter ∷ padded 7 read → ParsedAs (line_in line) (Some form) numbers
 unfolding lent
 parsed_read line columns letter form numbers [] low count form_is line_is numbers_are = absurd (omega arith)
 parsed_read line columns letter form numbers (n ∷ ns) low count form_is line_is numbers_are =
     rw line_is (ap form_says (form_is ∙ ap (form_of letter) (sym count)), numbers_are)
 
 pub parsed_whole : (line : List ℕ) (columns letter c : ℕ) (form : Form) (numbers : List ℕ) → Whole line columns letter form → columns ≤ c → c ≤ columns
-    → Filled line letter numbers c → ParsedAs (line_in line) form numbers
+    → Filled line letter numbers c → ParsedAs (line_in line) (Some form) numbers
 parsed_whole line columns letter c form numbers w high low f =
     let all : c ≡ columns = omega arith in
     parsed_read line columns letter form numbers f.read

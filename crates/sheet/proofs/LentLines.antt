@@ -1,35 +1,27 @@
 -- The line that lent numbers hold: the numbers it uses, and what its tests say of it after the lines before. Assumes nothing.
-use mathlib.Core.Path.{◌≡◌, refl, sym, subst, ap, ◌∙◌}
+use mathlib.Core.Path.{◌≡◌, refl, sym, ap, ◌∙◌}
 use mathlib.Core.Bool.{true, cond, false≢true, and-eq-true_iff}
 use mathlib.Core.List.{List, [], ◌∷◌}
-use Prim.Native.Nat.{ℕ, zero, suc, ◌+◌, ◌*◌, ◌<◌, ◌≤◌}
-use native.Mathlib.Nat.{add_assoc}
+use Prim.Native.Nat.{ℕ, zero, suc, ◌+◌, ◌*◌, ◌/◌, ◌<◌, ◌≤◌}
 use native.Mathlib.Numerals.{add-one}
 use native.Mathlib.Omega.{arith}
+use Rattle.std.proofs.Common.{false, Some, None, Result, Ok, Err, is_err}
 use borrow.Author.Tests.{eqb-true}
 use lib.Dec.{eqb}
 use lib.ListN.{length, get_or, take, drop, length-drop}
 use lib.Seq.{take-nil, drop-cons, length-take-le}
+use Rattle.std.specs.Simd.{first_chunks}
 use Rattle.sheet.specs.Line.{K, Line, form_of, known, in_range, form_of_line, well_formed, lent}
 use Rattle.patterns.specs.Outcome.{padded}
-use Rattle.patterns.proofs.ListLaws.{numbers-from}
 use Rattle.sheet.specs.Sheet.{refusal}
-use Rattle.sheet.specs.Inner.Promises.{Widths, Keeps, kept_after, Admits, AdmittedAs, used_of, zeros, ranges_right}
+use Rattle.sheet.specs.Inner.Promises.{Widths, Keeps, Admits, AdmittedAs, used_of, zeros, ranges_right}
 use Rattle.sheet.specs.declared.Form.{Form}
-use Rattle.sheet.specs.declared.Form.TheVariants.{Kind, Body, Head, Row, Unknown}
 use Rattle.sheet.specs.declared.order.Seen.{Seen}
-use Rattle.sheet.specs.declared.order.Admitted.{Admitted}
-use Rattle.sheet.specs.declared.order.Admitted.TheVariants.{Yes, No}
+use Rattle.sheet.specs.declared.order.Fault.{Fault}
 use Rattle.sheet.proofs.Lines.{both, drop_twice}
+use Rattle.sheet.proofs.OrderLaws.{fault_some}
 use Rattle.sheet.proofs.FormLaws.{formed_known, formed_range, formed_few, take-padded}
 use Rattle.sheet.proofs.Sheets.{used_all, refusal_passes}
-
-pub eight-at :
-    (l : List ℕ) (at : ℕ) → at + 8 ≤ length l
-    → take 8 (drop at l)
-    ≡ get_or l at 0 ∷ get_or l (at + 1) 0 ∷ get_or l (at + 2) 0 ∷ get_or l (at + 3) 0 ∷ get_or l (at + 4) 0 ∷ get_or l (at + 5) 0 ∷ get_or l (at + 6) 0
-    ∷ get_or l (at + 7) 0 ∷ []
-eight-at l at h = numbers-from l at 8 h ∙ simp add_assoc
 
 -- The line of which these numbers are lent and `fields` are used.
 abbrev pub line_of : ℕ → List ℕ → Line
@@ -38,6 +30,25 @@ line_of fields numbers = record { letter = get_or numbers 0 0; kind = get_or num
 -- The lines from line n on.
 abbrev pub from : ℕ → List ℕ → List ℕ
 from n numbers = drop (8 * n) numbers
+
+-- The lines that are whole, eight numbers each: line n's stand at its place.
+chunk_at : (k : ℕ) (xs : List ℕ) (n : ℕ) → n < k → get_or (first_chunks 8 k xs) n [] ≡ take 8 (from n xs)
+chunk_at zero xs n h = absurd (omega arith)
+chunk_at (suc k) xs zero h = refl
+chunk_at (suc k) xs (suc n) h =
+    chunk_at k (drop 8 xs) n (omega arith) ∙ ap (λ (ys : List ℕ). take 8 ys) (drop_twice (8 * n) 8 (8 * suc n) xs (omega arith))
+
+pub record Eight (numbers : List ℕ) (n : ℕ) (x : List ℕ) : Type 0 where
+  pub room : 8 * n + 8 ≤ length numbers
+  pub is : x ≡ take 8 (from n numbers)
+  pub size : length x ≡ 8
+
+pub eight_at : (numbers : List ℕ) (whole : List (List ℕ)) → whole ≡ first_chunks 8 (length numbers / 8) numbers → length whole ≡ length numbers / 8
+    → (n : ℕ) → n < length whole → Eight numbers n (get_or whole n [])
+eight_at numbers whole are count n h =
+    let room : 8 * n + 8 ≤ length numbers = omega arith in
+    let is : get_or whole n [] ≡ take 8 (from n numbers) = rw are (chunk_at (length numbers / 8) numbers n (omega arith)) in
+    record { room = room; is = is; size = rw is (length-take-le 8 (from n numbers) (omega (arith, length-drop (8 * n) numbers))) }
 
 -- The lent numbers are those of a line that goes on from the lines before.
 pub record LineAt (before : List Line) (l : Line) (numbers : List ℕ) : Type 0 where
@@ -81,17 +92,17 @@ module _
         ap (λ (k : ℕ). form_of (get_or numbers 0 0) k) (ap (λ (k : ℕ). k + 1) fields_are ∙ add-one (length l.numbers))
         ∙ ap (λ (x : List ℕ). form_of (get_or x 0 0) (suc (length l.numbers))) a.is
 
+    pub not_formless : None ≡ form_of (get_or numbers 0 0) (fields + 1) → ⊥
+    not_formless e = false≢true (ap known (e ∙ form_is) ∙ formed_known l a.formed)
+
     pub not_refused :
-        (seen : Seen) → Keeps before seen widths → (form : Form) → form ≡ form_of (get_or numbers 0 0) (fields + 1) → (answer : Admitted) (after : List ℕ)
-        → Admits seen widths form numbers answer after → (k : ℕ) → answer ≡ No k → ⊥
-    not_refused seen kept form e answer after admits k is =
-        let f : form ≡ form_of_line l = e ∙ form_is in
-        let n : form ≡ Unknown → ⊥ = λ u. false≢true (ap known (sym u ∙ f) ∙ formed_known l a.formed) in
-        let r = subst (λ (x : Admitted). AdmittedAs (kept_after seen form (get_or numbers 1 0)) before l x after) is (admits.each before l n kept f a.is) in
-        let p = a.passed in
-        let q = r.0 in
-        let t = r.1 in
-        omega arith
+        {A : Type 0} (seen : Seen) → Keeps before seen → (form : Form) → Some form ≡ form_of (get_or numbers 0 0) (fields + 1) → (answer : Result A Fault) (next : Seen)
+        → Admits seen form numbers answer next → is_err answer ≡ true → ⊥
+    not_refused {A = A} seen kept form e answer next admits wrong = go answer (admits.each before l kept (e ∙ form_is) a.is) wrong
+      where
+        go : (answer : Result A Fault) → AdmittedAs before l answer next → is_err answer ≡ true → ⊥
+        go (Ok x) r w = false≢true w
+        go (Err fault) r w = fault_some fault (sym r ∙ a.passed)
 
 padded-take : (w f : ℕ) (ns : List ℕ) → length ns ≡ w → zeros (drop f ns) ≡ true → padded w (take f ns) ≡ ns
 padded-take zero f [] e z = ap (padded zero) (take-nil f)
@@ -106,9 +117,9 @@ front_two : (numbers : List ℕ) → length numbers ≡ 8 → numbers ≡ get_or
 front_two numbers eight = drop-cons numbers 0 0 (omega arith) ∙ ap (λ (r : List ℕ). get_or numbers 0 0 ∷ r) (drop-cons numbers 1 0 (omega arith))
 
 -- A line that is admitted: it goes on from the lines before, and this is kept with it.
-pub record GoesOn (before : List Line) (fields : ℕ) (numbers : List ℕ) (seen : Seen) (widths : List ℕ) : Type 0 where
+pub record GoesOn (before : List Line) (fields : ℕ) (numbers : List ℕ) (seen : Seen) : Type 0 where
   pub line : LineAt before (line_of fields numbers) numbers
-  pub kept : Keeps (line_of fields numbers ∷ before) seen widths
+  pub kept : Keeps (line_of fields numbers ∷ before) seen
   pub used : length (take fields (drop 2 numbers)) ≡ fields
 
 module _ (before : List Line) (numbers : List ℕ) (eight : length numbers ≡ 8) (fields : ℕ) (few : fields ≤ 6) (right : ranges_right numbers fields ≡ true) where
@@ -130,27 +141,14 @@ module _ (before : List Line) (numbers : List ℕ) (eight : length numbers ≡ 8
       ∙ ((and-eq-true_iff (in_range (take (suc fields) (drop 1 numbers))) (zeros (drop (fields + 2) numbers))).0 right).0
 
   pub taken :
-      (seen : Seen) (widths : List ℕ) → Keeps before seen widths → (form : Form) → form ≡ form_of (get_or numbers 0 0) (fields + 1) → (answer : Admitted) (after : List ℕ)
-      → Admits seen widths form numbers answer after → (mark : ℕ) → answer ≡ Yes mark → (next : Seen) → next ≡ kept_after seen form (get_or numbers 1 0) mark
-      → GoesOn before fields numbers next after
+      {A : Type 0} (seen : Seen) → Keeps before seen → (form : Form) → Some form ≡ form_of (get_or numbers 0 0) (fields + 1) → (answer : Result A Fault) (next : Seen)
+      → Admits seen form numbers answer next → is_err answer ≡ false → GoesOn before fields numbers next
   unfolding well_formed
-  taken seen widths kept form e answer after admits mark is next then =
-      let f : form ≡ form_of_line (line_of fields numbers) =
-      e ∙ ap (form_of (get_or numbers 0 0)) (add-one fields ∙ ap suc (sym used_long)) in
-      let n : form ≡ Unknown → ⊥ = λ u. yes_is_not_no mark 2 (sym is ∙ admits.unknown u) in
-      let r = subst (λ (x : Admitted). AdmittedAs (kept_after seen form (get_or numbers 1 0)) before (line_of fields numbers) x after) is (admits.each before (line_of fields numbers) n kept f line_lent) in
-      record {
-        line = record { is = line_lent; formed = both (ap known (sym f) ∙ known_form form n) used_range; passed = r.0 };
-        kept = subst (λ (s : Seen). Keeps (line_of fields numbers ∷ before) s after) (sym then) r.1;
-        used = used_long;
-      }
+  taken {A = A} seen kept form e answer next admits right = go answer (admits.each before (line_of fields numbers) kept f line_lent) right
     where
-      yes_is_not_no : (s k : ℕ) → Yes s ≡ No k → ⊥
-      yes_is_not_no s k q = false≢true cc
+      f : Some form ≡ form_of_line (line_of fields numbers)
+      f = e ∙ ap (form_of (get_or numbers 0 0)) (add-one fields ∙ ap suc (sym used_long))
 
-      known_form : (f : Form) → (f ≡ Unknown → ⊥) → known f ≡ true
-      known_form Kind h = refl
-      known_form (Body k) h = refl
-      known_form (Head k) h = refl
-      known_form (Row k) h = refl
-      known_form Unknown h = absurd (h refl)
+      go : (answer : Result A Fault) → AdmittedAs before (line_of fields numbers) answer next → is_err answer ≡ false → GoesOn before fields numbers next
+      go (Ok x) r w = record { line = record { is = line_lent; formed = both (ap known (sym f)) used_range; passed = r.0 }; kept = r.1; used = used_long }
+      go (Err fault) r w = absurd (false≢true (sym w))

@@ -19,7 +19,7 @@ use Rattle.sheet.specs.declared.order.Seen.{Seen}
 use Rattle.sheet.proofs.Lines.{length-render, length-lent}
 use Rattle.sheet.proofs.Sheets.{parts_at, lent_shows}
 use Rattle.sheet.proofs.LentLines.{line_of, from, LineAt, GoesOn}
-use Rattle.sheet.proofs.LineCount.{Few, few_none, few_more, at_most_2368_lines}
+use Rattle.sheet.proofs.LineCount.{Few, few_none, few_more}
 use Rattle.sheet.proofs.Refused.{lent_refuses}
 
 -- More bytes before.
@@ -38,18 +38,18 @@ plus_line size l (good ls) =
 plus_line size l (refused number line) = refl
 
 -- What is known when n lines are measured.
-pub record Measures (numbers : List ℕ) (seen : Seen) (widths : List ℕ) (size n : ℕ) : Type 0 where
+pub record Measures (numbers : List ℕ) (seen : Seen) (size n : ℕ) : Type 0 where
   pub before : List Line
-  pub kept : Keeps before seen widths
+  pub kept : Keeps before seen
   pub count : length before ≡ n
   pub few : Few before
   pub inside : 8 * n ≤ length numbers
   pub small : size ≤ 65 * n
   pub rest : map_good size_of (sheet_held numbers) ≡ plus size (map_good size_of (checked taken_lent 8 before (parts_of (length (from n numbers)) (from n numbers))))
 
-pub measure_begun : (numbers : List ℕ) (seen : Seen) (widths : List ℕ) → Keeps [] seen widths → Measures numbers seen widths 0 0
+pub measure_begun : (numbers : List ℕ) (seen : Seen) → Keeps [] seen → Measures numbers seen 0 0
 unfolding sheet_held
-measure_begun numbers seen widths kept =
+measure_begun numbers seen kept =
     record {
       before = [];
       kept = kept;
@@ -67,10 +67,7 @@ taken_or before x h = go (taken_lent before x) refl
     go (takes l) e = absurd (h l e)
     go (refuses n) e = e ∙ ap refuses (lent_refuses before x n e)
 
-module _ (numbers : List ℕ) (seen : Seen) (widths : List ℕ) (size n : ℕ) (m : Measures numbers seen widths size n) where
-  pub size_small : size ≤ 153920
-  size_small = let s = m.small in let c = m.count in omega (arith, at_most_2368_lines m.before m.few)
-
+module _ {numbers : List ℕ} {seen : Seen} {size n : ℕ} (m : Measures numbers seen size n) where
   abbrev onward : Outcome (List Line)
   onward = checked taken_lent 8 m.before (parts_of (length (from n numbers)) (from n numbers))
 
@@ -94,9 +91,9 @@ module _ (numbers : List ℕ) (seen : Seen) (widths : List ℕ) (size n : ℕ) (
         ∙ ap (λ (k : ℕ). refused 8 k) c)
 
     pub line_taken :
-        (fields : ℕ) → fields ≤ 6 → 8 * (n + 1) ≤ length numbers → (next : Seen) (after : List ℕ) → GoesOn m.before fields x next after
-        → Measures numbers next after (size + (9 * fields + 11)) (n + 1)
-    line_taken fields few room next after t =
+        (fields : ℕ) → fields ≤ 6 → 8 * (n + 1) ≤ length numbers → (next : Seen) → GoesOn m.before fields x next
+        → Measures numbers next (size + (9 * fields + 11)) (n + 1)
+    line_taken fields few room next t =
         let l : Line = line_of fields x in
         let e : taken_lent m.before x ≡ takes l =
         ap (taken_lent m.before) t.line.is ∙ lent_shows.each m.before l t.line.formed t.line.passed in

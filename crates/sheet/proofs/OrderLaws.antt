@@ -1,23 +1,24 @@
 -- What a line is answered after the lines before it, and what is kept of it. Assumes nothing.
 use mathlib.Core.Path.{◌≡◌, refl, sym, subst, ap, ◌∙◌}
-use mathlib.Core.Bool.{Bool, true, false, cond, ◌&&◌, false≢true}
+use mathlib.Core.Bool.{Bool, true, false, cond, ◌&&◌}
 use mathlib.Core.List.{List, [], ◌∷◌}
-use Prim.Native.Nat.{ℕ, zero, suc, ◌≤◌, ◌<◌}
+use Prim.Native.Nat.{ℕ, zero, suc, ◌+◌, ◌≤◌, ◌<◌}
 use native.Mathlib.Omega.{arith}
-use borrow.Author.Tests.{eqb-true, eqb-false, leb-true, leb-false, lt-ltb, le-ltb}
+use Rattle.std.proofs.Common.{Option, Some, None, Result, Ok, Err}
+use borrow.Author.Tests.{leb-true, leb-false, lt-ltb, le-ltb}
 use lib.Dec.{eqb, leb, ltb}
-use lib.ListN.{length, get_or, take, drop, set, replicate, length-set}
+use lib.ListN.{length, get_or, take, drop, set, replicate}
 use lib.Seq.{get_or-take, get_or-drop}
-use Rattle.sheet.specs.Line.{K, B, H, R, Line, known}
-use Rattle.sheet.specs.Sheet.{in_place, letter_before, width_of, kind_right, top_mark, marks_from, marks_right, lines_with, room_for, refusal}
-use Rattle.sheet.specs.Inner.Promises.{Keeps, NothingSeen, HasRoom, kept_after, AdmittedAs, Admits, answer_for, placed_of, declares, marks_top}
+use Rattle.sheet.specs.Line.{K, B, H, R, Line}
+use Rattle.sheet.specs.Sheet.{in_place, letter_before, width_of, kind_right, marks_from, top_mark, marks_right, room_for, refusal}
+use Rattle.sheet.specs.Inner.Promises.{Keeps, AdmittedAs, Admits, Marked, fault_number, fault_in, placed_of, declares, marks_top, marked_of}
 use Rattle.sheet.specs.declared.Form.{Form}
 use Rattle.sheet.specs.declared.Form.TheVariants.{Kind, Body, Head, Row}
+use Rattle.sheet.specs.declared.order.Fault.{Fault}
+use Rattle.sheet.specs.declared.order.Fault.TheVariants.{Place, Width, Mark, Room}
 use Rattle.sheet.specs.declared.order.Seen.{Seen}
-use Rattle.sheet.specs.declared.order.Admitted.{Admitted}
-use Rattle.sheet.specs.declared.order.Admitted.TheVariants.{Yes, No}
-use Rattle.sheet.proofs.FormLaws.{letter_of, fields_of, shown_fields, shown_line, Shown, line_shown}
-use Rattle.sheet.proofs.MarkLaws.{top-none, top-some}
+use Rattle.sheet.proofs.FormLaws.{letter_of, fields_of, shown_fields, shown_line, line_shown}
+use Rattle.sheet.proofs.MarkLaws.{top-some}
 use Rattle.sheet.proofs.WidthLaws.{declares_low, widths-added}
 
 -- No width is declared.
@@ -27,164 +28,112 @@ no_width (suc n) zero = refl
 no_width (suc n) (suc k) = no_width n k
 
 -- What is kept before the first line.
-pub keeps_none : (seen : Seen) → NothingSeen seen → (widths : List ℕ) → length widths ≡ 65 → ((k : ℕ) → get_or widths k 0 ≡ 0) → Keeps [] seen widths
-keeps_none seen s widths size each =
+pub nothing_kept : Keeps [] (record { letter = 0; kind = 0; mark = 0; rules = 0; heads = 0; rows = 0; widths = replicate 65 0 })
+nothing_kept =
+    record { letter = refl; kind = refl; mark = refl; rules = refl; heads = refl; rows = refl; table = record { size = refl; each = no_width 65 } }
+
+-- A line is answered right where the line that the lent numbers show is.
+shown_admits : {A : Type 0} (f : Form) (old : Seen) (numbers : List ℕ) (answer : Result A Fault) (new : Seen)
+    → ((before : List Line) → Keeps before old → length (shown_fields f numbers) ≡ fields_of f → AdmittedAs before (shown_line f numbers) answer new)
+    → Admits old f numbers answer new
+shown_admits f old numbers answer new right =
     record {
-      letter = s.letter;
-      kind = s.kind;
-      mark = s.mark;
-      rules = s.rules;
-      heads = s.heads;
-      rows = s.rows;
-      table = record { size = size; each = each };
+      each = λ before l keeps e lend.
+          let shown = line_shown f l numbers e lend in
+          subst (λ (x : Line). AdmittedAs before x answer new) (sym shown.line) (right before keeps shown.size);
     }
 
--- A refused line asks for no room.
-no_room : {A : Type 0} {number : ℕ} → (mark : ℕ) → No number ≡ Yes mark → A
-no_room mark e = absurd (false≢true cc)
+-- A fault has a number.
+pub fault_some : (fault : Fault) → fault_number fault ≡ 0 → ⊥
+fault_some Place e = omega arith
+fault_some Width e = omega arith
+fault_some Mark e = omega arith
+fault_some Room e = omega arith
 
--- A line of a known form is answered right where the line that the lent numbers show is.
-known_admits : (f : Form) (seen : Seen) (widths numbers : List ℕ) (answer : Admitted) (after : List ℕ) → known f ≡ true → length after ≡ 65
-    → ((mark : ℕ) → answer ≡ Yes mark → HasRoom seen f)
-    → ((before : List Line) (l : Line) → Keeps before seen widths → Shown f numbers l
-    → AdmittedAs (kept_after seen f (get_or numbers 1 0)) before (shown_line f numbers) answer after)
-    → Admits seen widths f numbers answer after
-known_admits f seen widths numbers answer after k size room right =
-    record {
-      size = size;
-      room = room;
-      unknown = λ e. absurd (false≢true (subst (λ (g : Form). known g ≡ true) e k));
-      each = λ before l d keeps e lend.
-          let shown = line_shown f l numbers k e lend in
-          subst (λ (x : Line). AdmittedAs (kept_after seen f (get_or numbers 1 0)) before x answer after) (sym shown.line) (right before l keeps shown);
-    }
+-- The fault of place or kind, or the one that is left.
+abbrev or_else : ℕ → ℕ → ℕ
+or_else zero left = left
+or_else (suc n) left = suc n
 
--- A test of place and of kind that refuses.
-refuses : (a b : Bool) (x wrong : ℕ) → wrong ≡ cond a (cond b 0 4) 3 → (wrong ≡ 0 → ⊥)
-    → (cond a (cond b x 4) 3 ≡ wrong) × (3 ≤ wrong) × (wrong ≤ 6)
-refuses true true x wrong e d = absurd (d e)
-refuses true false x wrong e d = (sym e, omega arith, omega arith)
-refuses false b x wrong e d = (sym e, omega arith, omega arith)
-
--- One that does not.
-passes : (a b : Bool) (x wrong : ℕ) → wrong ≡ cond a (cond b 0 4) 3 → wrong ≡ 0 → cond a (cond b x 4) 3 ≡ x
-passes true true x wrong e z = refl
-passes true false x wrong e h = let z : ⊥ = omega arith in absurd z
-passes false b x wrong e h = let z : ⊥ = omega arith in absurd z
-
--- What the two tests of a line's place and kind answer.
-pub placed_is : {here right : Bool} {w v answer : ℕ} (last letter fields : ℕ) → here ≡ in_place last letter → right ≡ (ltb 0 w && eqb fields w) → w ≡ v
-    → answer ≡ cond here (cond right 0 4) 3 → answer ≡ placed_of last letter fields v
-placed_is last letter fields h r e a = a ∙ rw (h, r, e)
+two_tests : (a b : Bool) (left placed : ℕ) → placed ≡ cond a (cond b 0 4) 3 → cond a (cond b left 4) 3 ≡ or_else placed left
+two_tests true true left placed e = rw e
+two_tests true false left placed e = rw e
+two_tests false b left placed e = rw e
 
 -- What is left to be tested of a line in its place and of the right kind.
 abbrev tested : List Line → Line → ℕ
 tested before l = cond (marks_right before l) (cond (room_for before l) 0 6) 5
 
+abbrev placed_after : Seen → Form → List ℕ → ℕ
+placed_after old f numbers = placed_of old.letter (letter_of f) (fields_of f) (get_or old.widths (get_or numbers 1 0) 0)
+
 -- The refusal of a B, H or R line: for its place or its kind, or else as what is left to be tested says.
-module _ (before : List Line) (l : Line) (other : eqb l.letter K ≡ false) {wrong : ℕ}
-    (e : wrong ≡ placed_of (letter_before before) l.letter (length l.numbers) (width_of before l.kind)) where
-  refusal_placed : (wrong ≡ 0 → ⊥) → (refusal before l ≡ wrong) × (3 ≤ wrong) × (wrong ≤ 6)
-  unfolding refusal kind_right
-  refusal_placed d =
-      rw other
-      (refuses (in_place (letter_before before) l.letter)
-      (ltb 0 (width_of before l.kind) && eqb (length l.numbers) (width_of before l.kind))
-      (tested before l) wrong e d)
+refusal_is : (f : Form) → eqb (letter_of f) K ≡ false → (old : Seen) (numbers : List ℕ) (before : List Line) → Keeps before old
+    → length (shown_fields f numbers) ≡ fields_of f
+    → refusal before (shown_line f numbers) ≡ or_else (placed_after old f numbers) (tested before (shown_line f numbers))
+unfolding refusal kind_right
+refusal_is f other old numbers before keeps size =
+    rw other
+    (two_tests (in_place (letter_before before) (letter_of f))
+    (ltb 0 (width_of before (get_or numbers 1 0)) && eqb (length (shown_fields f numbers)) (width_of before (get_or numbers 1 0)))
+    (tested before (shown_line f numbers)) (placed_after old f numbers) (rw (keeps.letter, keeps.table.each (get_or numbers 1 0), size)))
 
-  refusal-tested : wrong ≡ 0 → refusal before l ≡ tested before l
-  unfolding refusal kind_right
-  refusal-tested z =
-      rw other
-      (passes (in_place (letter_before before) l.letter)
-      (ltb 0 (width_of before l.kind) && eqb (length l.numbers) (width_of before l.kind))
-      (tested before l) wrong e z)
-
--- An answer that is right where r is the line's refusal.
-abbrev AnsweredAs : (ℕ → Seen) → ℕ → List Line → Line → Admitted → List ℕ → Type 0
-AnsweredAs next r before l (Yes mark) widths = (r ≡ 0) × Keeps (l ∷ before) (next mark) widths
-AnsweredAs next r before l (No number) widths = (r ≡ number) × (3 ≤ number) × (number ≤ 6)
-
-answered : {r : ℕ} (next : ℕ → Seen) (before : List Line) (l : Line) (widths : List ℕ) (answer : Admitted) → refusal before l ≡ r
-    → AnsweredAs next r before l answer widths → AdmittedAs next before l answer widths
-answered next before l widths (Yes mark) e a = (e ∙ a.0, a.1)
-answered next before l widths (No number) e a = (e ∙ a.0, a.1, a.2)
-
--- What is kept of the lines before serves for the test of a line's place and kind.
-place_kept : (f : Form) (before : List Line) (seen : Seen) (widths numbers : List ℕ) → Keeps before seen widths → length (shown_fields f numbers) ≡ fields_of f
-    → placed_of seen.letter (letter_of f) (fields_of f) (get_or widths (get_or numbers 1 0) 0)
-    ≡ placed_of (letter_before before) (letter_of f) (length (shown_fields f numbers)) (width_of before (get_or numbers 1 0))
-place_kept f before seen widths numbers keeps size = rw (keeps.letter, keeps.table.each (get_or numbers 1 0), size)
-
--- A line that has a letter and n fields, is in its place and is of the right kind.
-pub record Placed (seen : Seen) (widths numbers : List ℕ) (letter n : ℕ) : Type 0 where
-  pub size : length widths ≡ 65
-  pub wrong : ℕ
-  pub found : wrong ≡ placed_of seen.letter letter n (get_or widths (get_or numbers 1 0) 0)
-  pub none : wrong ≡ 0
-
-module _ (f : Form) (other : eqb (letter_of f) K ≡ false) (k : known f ≡ true) {seen : Seen} {widths numbers : List ℕ} where
-  pub misplaced : {wrong : ℕ} → length widths ≡ 65 → wrong ≡ placed_of seen.letter (letter_of f) (fields_of f) (get_or widths (get_or numbers 1 0) 0)
-      → (wrong ≡ 0 → ⊥) → Admits seen widths f numbers (No wrong) widths
-  misplaced {wrong} size e d =
-      known_admits f seen widths numbers (No wrong) widths k size no_room
-      (λ before l keeps shown.
-      refusal_placed before (shown_line f numbers) other (e ∙ place_kept f before seen widths numbers keeps shown.size) d)
-
-  placed_admits : Placed seen widths numbers (letter_of f) (fields_of f) → (answer : Admitted) → ((mark : ℕ) → answer ≡ Yes mark → HasRoom seen f)
-      → ((before : List Line) → Keeps before seen widths → 1 ≤ length (shown_fields f numbers)
-      → AnsweredAs (kept_after seen f (get_or numbers 1 0)) (tested before (shown_line f numbers)) before (shown_line f numbers) answer widths)
-      → Admits seen widths f numbers answer widths
-  placed_admits p answer room right =
-      known_admits f seen widths numbers answer widths k p.size room
-      (λ before l keeps shown.
-      let some : 1 ≤ length (shown_fields f numbers) = let h = shown.size in let h2 = shown.some in omega arith in
-      answered (kept_after seen f (get_or numbers 1 0)) before (shown_line f numbers) widths answer
-      (refusal-tested before (shown_line f numbers) other (p.found ∙ place_kept f before seen widths numbers keeps shown.size) p.none)
-      (right before keeps some))
-
--- A B or H line whose marks go on from m, where `count` lines of `most` are there: it is misplaced, its marks are wrong, there is no room, it is added.
-module _ (f : Form) (other : eqb (letter_of f) K ≡ false) (k : known f ≡ true) {seen : Seen} {widths numbers : List ℕ} (m count most : ℕ)
-    (marks : (before : List Line) → Keeps before seen widths → marks_right before (shown_line f numbers) ≡ marks_from m (shown_fields f numbers))
-    (has : count < most → HasRoom seen f) (room : (before : List Line) → Keeps before seen widths → room_for before (shown_line f numbers) ≡ ltb count most)
-    (kept : (before : List Line) → Keeps before seen widths → (mark : ℕ) → mark ≡ top_mark m (shown_fields f numbers)
-    → Keeps (shown_line f numbers ∷ before) (kept_after seen f (get_or numbers 1 0) mark) widths)
+-- What is left of a B or H line, whose marks go on from m, where `count` lines of `most` are there.
+left_marked : (m count most : ℕ) (ns : List ℕ) (marks room : Bool) → marks ≡ marks_from m ns → room ≡ ltb count most
+    → cond marks (cond room 0 6) 5 ≡ marked_of 0 (marks_top m ns) (leb most count)
+left_marked m count most ns marks room e d = rw (e, d) (go (marks_from m ns) (leb most count) refl)
   where
-    marked_admits : {wrong mark : ℕ} {answer : Admitted} → length widths ≡ 65
-        → wrong ≡ placed_of seen.letter (letter_of f) (fields_of f) (get_or widths (get_or numbers 1 0) 0) → mark ≡ marks_top m (shown_fields f numbers)
-        → answer ≡ answer_for wrong mark (leb most count) → Admits seen widths f numbers answer widths
-    marked_admits {wrong} {mark} size e top is = rw is (go (eqb wrong 0) refl (eqb mark 0) refl (leb most count) refl)
-      where
-        here : eqb wrong 0 ≡ true → Placed seen widths numbers (letter_of f) (fields_of f)
-        here p = record { size = size; wrong = wrong; found = e; none = eqb-true wrong 0 p }
+    go : (b full : Bool) → leb most count ≡ full → cond b (cond (ltb count most) 0 6) 5 ≡ marked_of 0 (cond b (Some (top_mark m ns)) None) full
+    go false full r = refl
+    go true true r = rw (le-ltb count most (leb-true most count r))
+    go true false r = rw (lt-ltb count most (leb-false most count r))
 
-        right : eqb mark 0 ≡ false → (marks_from m (shown_fields f numbers) ≡ true) × (marks_top m (shown_fields f numbers) ≡ top_mark m (shown_fields f numbers))
-        right q = top-some m (shown_fields f numbers) (λ z. eqb-false mark 0 q (top ∙ z))
+placed_marked : (placed left : ℕ) (marks : Option ℕ) (full : Bool) → left ≡ marked_of 0 marks full → or_else placed left ≡ marked_of placed marks full
+placed_marked zero left marks full e = e
+placed_marked (suc n) left marks full e = refl
 
-        go : (a : Bool) → eqb wrong 0 ≡ a → (b : Bool) → eqb mark 0 ≡ b → (c : Bool) → leb most count ≡ c
-            → Admits seen widths f numbers (cond a (cond b (No 5) (cond c (No 6) (Yes mark))) (No wrong)) widths
-        go false p b q c r = misplaced f other k size e (eqb-false wrong 0 p)
-        go true p true q c r =
-            placed_admits f other k (here p) (No 5) no_room
-            (λ before keeps some.
-            (rw (marks before keeps ∙ top-none m (shown_fields f numbers) some (sym top ∙ eqb-true mark 0 q)), omega arith, omega arith))
-        go true p false q true r =
-            placed_admits f other k (here p) (No 6) no_room
-            (λ before keeps some.
-            (rw (marks before keeps ∙ (right q).0, room before keeps ∙ le-ltb count most (leb-true most count r)), omega arith, omega arith))
-        go true p false q false r =
-            placed_admits f other k (here p) (Yes mark) (λ _ _. has (leb-false most count r))
-            (λ before keeps some.
-            (rw (marks before keeps ∙ (right q).0, room before keeps ∙ lt-ltb count most (leb-false most count r)), kept before keeps mark (top ∙ (right q).1)))
+-- A B or H line: it is refused, or it is added with the largest of its marks.
+module _ (f : Form) (other : eqb (letter_of f) K ≡ false) (old : Seen) (numbers : List ℕ) (m count most : ℕ)
+    (marks : (before : List Line) → Keeps before old → marks_right before (shown_line f numbers) ≡ marks_from m (shown_fields f numbers))
+    (room : (before : List Line) → Keeps before old → room_for before (shown_line f numbers) ≡ ltb count most)
+  where
+    abbrev Answered : Result ℕ Fault → Type 0
+    Answered answer = Marked (placed_after old f numbers) (marks_top m (shown_fields f numbers)) (leb most count) answer
 
-module _ (seen : Seen) {widths numbers : List ℕ} {n : ℕ} (wrong mark : ℕ) {answer : Admitted} (size : length widths ≡ 65) where
+    refusal_marked : (answer : Result ℕ Fault) → Answered answer → (before : List Line) → Keeps before old → length (shown_fields f numbers) ≡ fields_of f
+        → refusal before (shown_line f numbers) ≡ fault_in answer
+    refusal_marked answer a before keeps size =
+        refusal_is f other old numbers before keeps size
+        ∙ placed_marked (placed_after old f numbers) (tested before (shown_line f numbers)) _ _
+        (left_marked m count most (shown_fields f numbers) (marks_right before (shown_line f numbers)) (room_for before (shown_line f numbers)) (marks before keeps) (room before keeps))
+        ∙ sym a.fault
+
+    marked_refused : {A : Type 0} (fault : Fault) → Answered (Err fault) → (answer : Result A Fault) → answer ≡ Err fault → Admits old f numbers answer old
+    marked_refused fault a answer is = rw is (shown_admits f old numbers (Err fault) old (refusal_marked (Err fault) a))
+
+    marked_added : {A : Type 0} (x : A) (top : ℕ) → Answered (Ok top) → (new : Seen)
+        → ((before : List Line) → Keeps before old → top ≡ top_mark m (shown_fields f numbers) → Keeps (shown_line f numbers ∷ before) new)
+        → Admits old f numbers (Ok x) new
+    marked_added x top a new kept =
+        shown_admits f old numbers (Ok x) new
+        (λ before keeps size. (refusal_marked (Ok top) a before keeps size, kept before keeps (top-some m top (shown_fields f numbers) (a.mark top refl)).1))
+
+module _ (old : Seen) (numbers : List ℕ) (n : ℕ) where
+  abbrev BodyAnswered : Bool → Result ℕ Fault → Type 0
+  BodyAnswered full answer = Marked (placed_of old.letter B n (get_or old.widths (get_or numbers 1 0) 0)) (marks_top 0 (take n (drop 2 numbers))) full answer
+
   -- A B line.
-  pub body_admits : wrong ≡ placed_of seen.letter B n (get_or widths (get_or numbers 1 0) 0) → mark ≡ marks_top 0 (take n (drop 2 numbers))
-      → answer ≡ answer_for wrong mark (leb 256 seen.rules) → Admits seen widths (Body n) numbers answer widths
+  pub body_refused : {A : Type 0} (full : Bool) (fault : Fault) → BodyAnswered full (Err fault) → full ≡ leb 256 old.rules → (answer : Result A Fault) → answer ≡ Err fault → Admits old (Body n) numbers answer old
   unfolding marks_right room_for
-  body_admits e top is =
-      marked_admits (Body n) refl refl 0 seen.rules 256 (λ before keeps. refl) (λ h. h) (λ before keeps. ap (λ (c : ℕ). ltb c 256) (sym keeps.rules))
-      (λ before keeps m largest.
+  body_refused full fault a e answer is =
+      marked_refused (Body n) refl old numbers 0 old.rules 256 (λ before keeps. refl) (λ before keeps. ap (λ (c : ℕ). ltb c 256) (sym keeps.rules)) fault (rw e at a) answer is
+
+  pub body_added : {A : Type 0} (full : Bool) (x : A) (top : ℕ) → BodyAnswered full (Ok top) → full ≡ leb 256 old.rules
+      → Admits old (Body n) numbers (Ok x) (record { letter = B; kind = get_or numbers 1 0; mark = top; rules = old.rules + 1; heads = 0; rows = old.rows; widths = old.widths })
+  unfolding marks_right room_for
+  body_added full x top a e =
+      marked_added (Body n) refl old numbers 0 old.rules 256 (λ before keeps. refl) (λ before keeps. ap (λ (c : ℕ). ltb c 256) (sym keeps.rules)) x top (rw e at a) _
+      (λ before keeps largest.
       record {
         letter = refl;
         kind = refl;
@@ -192,18 +141,26 @@ module _ (seen : Seen) {widths numbers : List ℕ} {n : ℕ} (wrong mark : ℕ) 
         rules = let k = keeps.rules in omega arith;
         heads = refl;
         rows = keeps.rows;
-        table = record { size = size; each = keeps.table.each };
+        table = record { size = keeps.table.size; each = keeps.table.each };
       })
-      size e top is
+
+  abbrev HeadAnswered : Bool → Result ℕ Fault → Type 0
+  HeadAnswered full answer = Marked (placed_of old.letter H n (get_or old.widths (get_or numbers 1 0) 0)) (marks_top old.mark (take n (drop 2 numbers))) full answer
 
   -- An H line.
-  pub head_admits : wrong ≡ placed_of seen.letter H n (get_or widths (get_or numbers 1 0) 0) → mark ≡ marks_top seen.mark (take n (drop 2 numbers))
-      → answer ≡ answer_for wrong mark (leb 4 seen.heads) → Admits seen widths (Head n) numbers answer widths
+  pub head_refused : {A : Type 0} (full : Bool) (fault : Fault) → HeadAnswered full (Err fault) → full ≡ leb 4 old.heads → (answer : Result A Fault) → answer ≡ Err fault → Admits old (Head n) numbers answer old
   unfolding marks_right room_for
-  head_admits e top is =
-      marked_admits (Head n) refl refl seen.mark seen.heads 4 (λ before keeps. ap (λ (m : ℕ). marks_from m (take n (drop 2 numbers))) (sym keeps.mark)) (λ h. h)
-      (λ before keeps. ap (λ (c : ℕ). ltb c 4) (sym keeps.heads))
-      (λ before keeps m largest.
+  head_refused full fault a e answer is =
+      marked_refused (Head n) refl old numbers old.mark old.heads 4 (λ before keeps. ap (λ (m : ℕ). marks_from m (take n (drop 2 numbers))) (sym keeps.mark))
+      (λ before keeps. ap (λ (c : ℕ). ltb c 4) (sym keeps.heads)) fault (rw e at a) answer is
+
+  pub head_added : {A : Type 0} (full : Bool) (x : A) (top : ℕ) → HeadAnswered full (Ok top) → full ≡ leb 4 old.heads
+      → Admits old (Head n) numbers (Ok x) (record { letter = H; kind = get_or numbers 1 0; mark = top; rules = old.rules; heads = old.heads + 1; rows = old.rows; widths = old.widths })
+  unfolding marks_right room_for
+  head_added full x top a e =
+      marked_added (Head n) refl old numbers old.mark old.heads 4 (λ before keeps. ap (λ (m : ℕ). marks_from m (take n (drop 2 numbers))) (sym keeps.mark))
+      (λ before keeps. ap (λ (c : ℕ). ltb c 4) (sym keeps.heads)) x top (rw e at a) _
+      (λ before keeps largest.
       record {
         letter = refl;
         kind = refl;
@@ -211,25 +168,36 @@ module _ (seen : Seen) {widths numbers : List ℕ} {n : ℕ} (wrong mark : ℕ) 
         rules = keeps.rules;
         heads = let k = keeps.heads in omega arith;
         rows = keeps.rows;
-        table = record { size = size; each = keeps.table.each };
+        table = record { size = keeps.table.size; each = keeps.table.each };
       })
-      size e top is
 
--- A placed R line.
-module _ {seen : Seen} {widths numbers : List ℕ} {n : ℕ} (p : Placed seen widths numbers R n) where
-  pub row_full : 1024 ≤ seen.rows → Admits seen widths (Row n) numbers (No 6) widths
-  unfolding marks_right room_for
-  row_full h =
-      placed_admits (Row n) refl refl p (No 6) no_room
-      (λ before keeps some. (rw (le-ltb (lines_with R before) 1024 (let k = keeps.rows in omega arith)), omega arith, omega arith))
+  -- An R line: out of its place or of the wrong kind, one too many, added.
+  pub row_misplaced : {A : Type 0} (fault : Fault) → fault_number fault ≡ placed_after old (Row n) numbers → (answer : Result A Fault) → answer ≡ Err fault → Admits old (Row n) numbers answer old
+  row_misplaced fault e answer is =
+      rw is
+      (shown_admits (Row n) old numbers (Err fault) old
+      (λ before keeps size. refusal_is (Row n) refl old numbers before keeps size ∙ go _ (placed_after old (Row n) numbers) e))
+    where
+      go : (left placed : ℕ) → fault_number fault ≡ placed → or_else placed left ≡ fault_number fault
+      go left zero d = absurd (fault_some fault d)
+      go left (suc k) d = sym d
 
-  pub row_added : seen.rows < 1024
-      → Admits seen widths (Row n) numbers (Yes 0) widths
+  row_placed : 0 ≡ placed_after old (Row n) numbers → (answer : ℕ) (before : List Line) → Keeps before old → length (shown_fields (Row n) numbers) ≡ n
+      → cond (ltb old.rows 1024) 0 6 ≡ answer → refusal before (shown_line (Row n) numbers) ≡ answer
   unfolding marks_right room_for
-  row_added h =
-      placed_admits (Row n) refl refl p (Yes 0) (λ _ _. h)
-      (λ before keeps some. (
-        rw (lt-ltb (lines_with R before) 1024 (let k = keeps.rows in omega arith)),
+  row_placed e answer before keeps size is =
+      refusal_is (Row n) refl old numbers before keeps size ∙ rw (← e) (ap (λ (c : ℕ). cond (ltb c 1024) 0 6) (sym keeps.rows) ∙ is)
+
+  pub row_full : {A : Type 0} → 0 ≡ placed_after old (Row n) numbers → 1024 ≤ old.rows → Admits {A = A} old (Row n) numbers (Err Room) old
+  row_full e h =
+      shown_admits (Row n) old numbers (Err Room) old (λ before keeps size. row_placed e _ before keeps size (rw (le-ltb old.rows 1024 h)))
+
+  pub row_added : {A : Type 0} (x : A) → 0 ≡ placed_after old (Row n) numbers → old.rows < 1024
+      → Admits old (Row n) numbers (Ok x) (record { letter = R; kind = get_or numbers 1 0; mark = 0; rules = old.rules; heads = 0; rows = old.rows + 1; widths = old.widths })
+  row_added x e h =
+      shown_admits (Row n) old numbers (Ok x) _
+      (λ before keeps size. (
+        row_placed e _ before keeps size (rw (lt-ltb old.rows 1024 h)),
         record {
           letter = refl;
           kind = refl;
@@ -237,7 +205,7 @@ module _ {seen : Seen} {widths numbers : List ℕ} {n : ℕ} (p : Placed seen wi
           rules = keeps.rules;
           heads = refl;
           rows = let k = keeps.rows in omega arith;
-          table = record { size = p.size; each = keeps.table.each };
+          table = record { size = keeps.table.size; each = keeps.table.each };
         },
       ))
 
@@ -246,27 +214,23 @@ first_field_lem : (numbers : List ℕ) → get_or (take 1 (drop 2 numbers)) 0 0 
 first_field_lem numbers = get_or-take 1 (drop 2 numbers) 0 0 (omega arith) ∙ get_or-drop 2 numbers 0 0
 
 -- A K line: out of its place, declaring wrongly, added.
-module _ {seen : Seen} {widths numbers : List ℕ} (size : length widths ≡ 65) where
-  pub kind_out : in_place seen.letter K ≡ false → Admits seen widths Kind numbers (No 3) widths
+module _ {A : Type 0} {old : Seen} {numbers : List ℕ} where
+  pub kind_out : in_place old.letter K ≡ false → Admits {A = A} old Kind numbers (Err Place) old
   unfolding refusal
-  kind_out o =
-      known_admits Kind seen widths numbers (No 3) widths refl size no_room (λ before l keeps shown. (rw (← keeps.letter, o), omega arith, omega arith))
+  kind_out o = shown_admits Kind old numbers (Err Place) old (λ before keeps size. rw (← keeps.letter, o))
 
-  module _ (i : in_place seen.letter K ≡ true) where
-    pub kind_wrong : declares seen.kind (get_or numbers 1 0) (get_or numbers 2 0) ≡ false → Admits seen widths Kind numbers (No 4) widths
+  module _ (i : in_place old.letter K ≡ true) where
+    pub kind_wrong : declares old.kind (get_or numbers 1 0) (get_or numbers 2 0) ≡ false → Admits {A = A} old Kind numbers (Err Width) old
     unfolding refusal kind_right
-    kind_wrong w =
-        known_admits Kind seen widths numbers (No 4) widths refl size no_room
-        (λ before l keeps shown. (rw (← keeps.letter, i, ← keeps.kind, first_field_lem numbers, w), omega arith, omega arith))
+    kind_wrong w = shown_admits Kind old numbers (Err Width) old (λ before keeps size. rw (← keeps.letter, i, ← keeps.kind, first_field_lem numbers, w))
 
-    pub kind_added : declares seen.kind (get_or numbers 1 0) (get_or numbers 2 0) ≡ true
-        → Admits seen widths Kind numbers (Yes 0)
-        (set widths (get_or numbers 1 0) (get_or numbers 2 0))
+    pub kind_added : (x : A) → declares old.kind (get_or numbers 1 0) (get_or numbers 2 0) ≡ true
+        → Admits old Kind numbers (Ok x)
+        (record { letter = K; kind = get_or numbers 1 0; mark = 0; rules = old.rules; heads = 0; rows = old.rows; widths = set old.widths (get_or numbers 1 0) (get_or numbers 2 0) })
     unfolding refusal kind_right marks_right room_for
-    kind_added w =
-        known_admits Kind seen widths numbers (Yes 0) (set widths (get_or numbers 1 0) (get_or numbers 2 0)) refl
-        (length-set widths (get_or numbers 1 0) (get_or numbers 2 0) ∙ size) (λ _ _. tt)
-        (λ before l keeps shown. (
+    kind_added x w =
+        shown_admits Kind old numbers (Ok x) _
+        (λ before keeps size. (
           rw (← keeps.letter, i, ← keeps.kind, first_field_lem numbers, w),
           record {
             letter = refl;
@@ -276,7 +240,7 @@ module _ {seen : Seen} {widths numbers : List ℕ} (size : length widths ≡ 65)
             heads = refl;
             rows = keeps.rows;
             table =
-                widths-added before widths (shown_line Kind numbers) keeps.table refl (declares_low seen.kind (get_or numbers 1 0) (get_or numbers 2 0) w).0
+                widths-added before old.widths (shown_line Kind numbers) keeps.table refl (declares_low old.kind (get_or numbers 1 0) (get_or numbers 2 0) w).0
                 (get_or numbers 2 0) (sym (first_field_lem numbers));
           },
         ))

@@ -1,11 +1,11 @@
 -- What is put into a text at a place: a byte, columns, a line. Assumes nothing.
 use mathlib.Core.Path.{◌≡◌, refl, sym, ap, ◌∙◌}
 use mathlib.Core.List.{List, [], ◌∷◌, ◌++◌, append_assoc, append-nil}
-use Prim.Native.Nat.{ℕ, ◌+◌, ◌*◌, ◌<◌, ◌≤◌}
+use Prim.Native.Nat.{ℕ, ◌+◌, ◌-◌, ◌*◌, ◌<◌, ◌≤◌}
 use native.Mathlib.Numerals.{add-one}
 use native.Mathlib.Omega.{arith}
 use lib.ListN.{length, get_or, take, drop, set, length-append, length-drop}
-use lib.Seq.{drop-cons, take-suc, take_at, drop-append-add, length-take-le, get_or-drop, sets-eq, length-sets}
+use lib.Seq.{drop-cons, take-suc, take_at, drop-append-add, length-take-le, get_or-take, get_or-drop, sets-eq, length-sets}
 use Rattle.columns.specs.Column.{largest_number, column, put, column_put}
 use Rattle.sheet.specs.Line.{columns, render}
 use Rattle.columns.proofs.ColumnLaws.{length-column, column_put-fits}
@@ -83,8 +83,13 @@ module _ (numbers : List ℕ) (eight : length numbers ≡ 8) (t : List ℕ) (at 
   seven : length (drop 1 numbers) ≡ 7
   seven = omega (arith, length-drop 1 numbers)
 
-  pub lent-columns_long : (c : ℕ) → c ≤ fields + 1 → length (put t (at + 1) (columns (take c (drop 1 numbers)))) ≡ length t
-  lent-columns_long c h = let e = seven in columns_long (drop 1 numbers) t at c (omega arith) (omega arith)
+  -- The numbers that are put: the kind, then the used ones.
+  pub put-long : length (take (fields + 2 - 1) (drop 1 numbers)) ≡ fields + 1
+  put-long = let e = seven in length-take-le (fields + 2 - 1) (drop 1 numbers) (omega arith) ∙ omega arith
+
+  pub put-at : (c : ℕ) → c < fields + 1 → get_or (take (fields + 2 - 1) (drop 1 numbers)) c 0 ≡ get_or numbers (c + 1) 0
+  put-at c h =
+      get_or-take (fields + 2 - 1) (drop 1 numbers) c 0 (omega arith) ∙ get_or-drop 1 numbers c 0 ∙ ap (λ (k : ℕ). get_or numbers k 0) (omega arith)
 
   pub lent-column-put :
       (c : ℕ) {text : List ℕ} → c < fields + 1 → get_or numbers (c + 1) 0 ≤ largest_number → text ≡ put t (at + 1) (columns (take c (drop 1 numbers)))

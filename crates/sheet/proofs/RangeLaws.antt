@@ -1,73 +1,64 @@
--- The ranges of a lent line's numbers, tested one after the other. Assumes nothing.
-use mathlib.Core.Path.{◌≡◌, refl, sym, subst, ap, ◌∙◌}
-use mathlib.Core.Bool.{Bool, true, false, cond, ◌&&◌, and_assoc, and-eq-true_iff}
-use mathlib.Core.List.{List, [], ◌∷◌}
-use Prim.Native.Nat.{ℕ, zero, suc, ◌+◌, ◌<◌, ◌≤◌}
-use native.Mathlib.Numerals.{add-one}
-use native.Mathlib.Omega.{arith}
-use borrow.Author.Tests.{lt-ltb, le-ltb, le-leb, lt-leb, eq-eqb, ne_eqb, leb-true}
-use lib.Dec.{eqb, leb, ltb}
-use lib.ListN.{length, get_or, take, drop, length-take, length-drop, drop_of_length-le}
-use lib.Seq.{drop-cons, get_or-take, get_or-drop}
+-- The ranges of a lent line's numbers. Assumes nothing.
+use Rattle.std.proofs.Common.{◌≡◌, ℕ, zero, suc, ◌+◌, ◌-◌, ◌<◌, ◌≤◌, Bool, true, false, ◌&&◌, List, [], ◌∷◌, length, get_or, take, drop, MatchBool, HoldsAt, refl, sym, subst, ap, ◌∙◌, arith}
+use Rattle.std.specs.List.{AllWithin}
+use mathlib.Core.Bool.{and-eq-true_iff}
+use Prim.Native.Nat.{zero-le}
+use borrow.Author.Tests.{le-leb, lt-leb, eq-eqb, ne_eqb, leb-true}
+use lib.Dec.{eqb, leb}
+use lib.ListN.{length-take, length-drop}
+use lib.Seq.{get_or-take, get_or-drop, take_all}
 use Rattle.columns.specs.Column.{largest_number}
 use Rattle.sheet.specs.Line.{in_range}
 use Rattle.sheet.specs.Inner.Promises.{zeros, ranges_right}
-use Rattle.sheet.proofs.Lines.{drop_twice}
 
--- The test of the number at place i.
-abbrev range_at : ℕ → ℕ → ℕ → Bool
-range_at fields i n = cond (ltb i (fields + 2)) (leb n largest_number) (eqb n 0)
+-- A test that all of some numbers pass, or that one of them fails.
+module _ (test : ℕ → Bool) (all : List ℕ → Bool) (none : all [] ≡ true) (more : (n : ℕ) (ns : List ℕ) → all (n ∷ ns) ≡ (test n && all ns)) where
+  each_passes : (ns : List ℕ) → ((k : ℕ) → k < length ns → test (get_or ns k 0) ≡ true) → all ns ≡ true
+  each_passes [] h = none
+  each_passes (n ∷ ns) h = more n ns ∙ rw (h 0 (omega arith), each_passes ns (λ k l. h (suc k) (omega arith)))
 
--- The tests of the numbers from place i on.
-abbrev pub ranges_from : ℕ → ℕ → List ℕ → Bool
-ranges_from fields i [] = true
-ranges_from fields i (n ∷ ns) = range_at fields i n && ranges_from fields (i + 1) ns
+  one_fails : (ns : List ℕ) (k : ℕ) → k < length ns → test (get_or ns k 0) ≡ false → all ns ≡ false
+  one_fails [] k l h = absurd (omega arith)
+  one_fails (n ∷ ns) zero l h = more n ns ∙ rw h
+  one_fails (n ∷ ns) (suc k) l h = more n ns ∙ rw (one_fails ns k (omega arith) h) (and_false (test n))
+    where
+      and_false : (b : Bool) → (b && false) ≡ false
+      and_false true = refl
+      and_false false = refl
 
-ranges_past : (fields i : ℕ) (ns : List ℕ) → fields + 2 ≤ i → ranges_from fields i ns ≡ zeros ns
-ranges_past fields i [] h = refl
-ranges_past fields i (n ∷ ns) h =
-    rw (le-ltb i (fields + 2) h) (ap (λ (t : Bool). eqb n 0 && t) (ranges_past fields (i + 1) ns (omega arith)))
+pub all_in_range : (r : Bool) (ns : List ℕ)
+    → MatchBool r (AllWithin (λ n. n ≤ 99999999) ns 0 (length ns)) ((k : ℕ) × (k < length ns) × HoldsAt (λ n. 99999999 < n) ns k) → r ≡ in_range ns
+all_in_range true ns h =
+    sym (each_passes (λ n. leb n largest_number) in_range refl (λ n ns. refl) ns (λ k l. le-leb (get_or ns k 0) 99999999 (h k 0 zero-le l)))
+all_in_range false ns h =
+    let (k, l, large) = h in
+    sym (one_fails (λ n. leb n largest_number) in_range refl (λ n ns. refl) ns k l (lt-leb (get_or ns k 0) 99999999 (large 0)))
 
-ranges-from : (fields i k : ℕ) (ns : List ℕ) → i + k ≡ fields + 2 → ranges_from fields i ns ≡ (in_range (take k ns) && zeros (drop k ns))
-ranges-from fields i zero ns e = ranges_past fields i ns (omega arith)
-ranges-from fields i (suc k) [] e = refl
-ranges-from fields i (suc k) (n ∷ ns) e =
-    rw (lt-ltb i (fields + 2) (omega arith))
-    (ap (λ (t : Bool). leb n largest_number && t) (ranges-from fields (i + 1) k ns (omega arith))
-    ∙ sym (and_assoc (leb n largest_number) (in_range (take k ns)) (zeros (drop k ns))))
+pub all_zero : (r : Bool) (ns : List ℕ)
+    → MatchBool r (AllWithin (λ n. n ≡ 0) ns 0 (length ns)) ((k : ℕ) × (k < length ns) × HoldsAt (λ n. n ≡ 0 → ⊥) ns k) → r ≡ zeros ns
+all_zero true ns h =
+    sym (each_passes (λ n. eqb n 0) zeros refl (λ n ns. refl) ns (λ k l. eq-eqb (get_or ns k 0) 0 (h k 0 zero-le l)))
+all_zero false ns h =
+    let (k, l, other) = h in
+    sym (one_fails (λ n. eqb n 0) zeros refl (λ n ns. refl) ns k l (ne_eqb (get_or ns k 0) 0 (other 0)))
 
--- The tests from the kind on are all of them.
-pub ranges_begun : (fields : ℕ) (numbers : List ℕ) → ranges_right numbers fields ≡ ranges_from fields 1 (drop 1 numbers)
-ranges_begun fields numbers =
-    ap (λ (r : List ℕ). in_range (take (suc fields) (drop 1 numbers)) && zeros r) (sym (drop_twice (suc fields) 1 (fields + 2) numbers (omega arith)))
-    ∙ sym (ranges-from fields 1 (suc fields) (drop 1 numbers) (omega arith))
+-- The used numbers, and then the unused ones.
+module _ (numbers : List ℕ) (fields : ℕ) where
+  used_numbers : take (fields + 2 - 1) (drop 1 numbers) ≡ take (suc fields) (drop 1 numbers)
+  used_numbers = let e : fields + 2 - 1 ≡ suc fields = omega arith in rw e
 
-module _ (fields i : ℕ) (numbers : List ℕ) (inside : i < length numbers) where
-  ranges_at : ranges_from fields i (drop i numbers) ≡ (range_at fields i (get_or numbers i 0) && ranges_from fields (i + 1) (drop (i + 1) numbers))
-  ranges_at =
-      ap (ranges_from fields i) (drop-cons numbers i 0 inside)
-      ∙ ap (λ (k : ℕ). range_at fields i (get_or numbers i 0) && ranges_from fields (i + 1) (drop k numbers)) (sym (add-one i))
+  pub ranges_wrong : (a : Bool) → a ≡ in_range (take (fields + 2 - 1) (drop 1 numbers)) → a ≡ false → a ≡ ranges_right numbers fields
+  ranges_wrong a is wrong =
+      let e : in_range (take (suc fields) (drop 1 numbers)) ≡ false = ap in_range (sym used_numbers) ∙ sym is ∙ wrong in
+      wrong ∙ rw e
 
-  number_wrong : range_at fields i (get_or numbers i 0) ≡ false → ranges_from fields i (drop i numbers) ≡ false
-  number_wrong e = ranges_at ∙ ap (λ (t : Bool). t && ranges_from fields (i + 1) (drop (i + 1) numbers)) e
-
-  number_right : range_at fields i (get_or numbers i 0) ≡ true → ranges_from fields i (drop i numbers) ≡ ranges_from fields (i + 1) (drop (i + 1) numbers)
-  number_right e = ranges_at ∙ ap (λ (t : Bool). t && ranges_from fields (i + 1) (drop (i + 1) numbers)) e
-
-  pub too_large : i < fields + 2 → 99999999 < get_or numbers i 0 → ranges_from fields i (drop i numbers) ≡ false
-  too_large h k = number_wrong (rw (lt-ltb i (fields + 2) h) (lt-leb (get_or numbers i 0) 99999999 k))
-
-  pub not_unused : fields + 2 ≤ i → (get_or numbers i 0 ≡ 0 → ⊥) → ranges_from fields i (drop i numbers) ≡ false
-  not_unused h k = number_wrong (rw (le-ltb i (fields + 2) h) (ne_eqb (get_or numbers i 0) 0 k))
-
-  pub within : i < fields + 2 → get_or numbers i 0 ≤ 99999999 → ranges_from fields i (drop i numbers) ≡ ranges_from fields (i + 1) (drop (i + 1) numbers)
-  within h k = number_right (rw (lt-ltb i (fields + 2) h) (le-leb (get_or numbers i 0) 99999999 k))
-
-  pub unused : fields + 2 ≤ i → get_or numbers i 0 ≡ 0 → ranges_from fields i (drop i numbers) ≡ ranges_from fields (i + 1) (drop (i + 1) numbers)
-  unused h k = number_right (rw (le-ltb i (fields + 2) h) (eq-eqb (get_or numbers i 0) 0 k))
-
-pub ranges_done : (fields i : ℕ) (numbers : List ℕ) → length numbers ≤ i → ranges_from fields i (drop i numbers) ≡ true
-ranges_done fields i numbers h = ap (ranges_from fields i) (drop_of_length-le numbers h)
+  pub ranges_left : (a b : Bool) → length numbers ≡ 8 → a ≡ in_range (take (fields + 2 - 1) (drop 1 numbers)) → a ≡ true
+      → b ≡ zeros (take (8 - (fields + 2)) (drop (fields + 2) numbers)) → b ≡ ranges_right numbers fields
+  ranges_left a b size is right rest =
+      let e : in_range (take (suc fields) (drop 1 numbers)) ≡ true = ap in_range (sym used_numbers) ∙ sym is ∙ right in
+      let d : take (8 - (fields + 2)) (drop (fields + 2) numbers) ≡ drop (fields + 2) numbers =
+      take_all (8 - (fields + 2)) (drop (fields + 2) numbers) (omega (arith, length-drop (fields + 2) numbers)) in
+      rest ∙ ap zeros d ∙ rw e
 
 pub in_range_at : (ns : List ℕ) (i : ℕ) → in_range ns ≡ true → i < length ns → get_or ns i 0 ≤ largest_number
 in_range_at [] i e h = absurd (omega arith)

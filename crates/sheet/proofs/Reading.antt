@@ -1,13 +1,14 @@
 -- Laws of reading: line by line its tests and its numbers, then what is answered. Assumes nothing.
-use mathlib.Core.Path.{◌≡◌, refl, sym, ap, ◌∙◌, subst}
+use mathlib.Core.Path.{◌≡◌, refl, sym, ap, ◌∙◌}
 use mathlib.Core.Bool.{false≢true}
 use mathlib.Core.List.{List, [], ◌∷◌, ◌++◌, append_assoc, append-nil}
 use mathlib.Core.Option.{Option, none, some}
 use Prim.Native.Nat.{ℕ, zero, suc, ◌+◌, ◌*◌, ◌/◌, ◌≤◌, ◌<◌, zero-le}
 use native.Mathlib.Omega.{arith}
+use Rattle.std.proofs.Common.{Some, None, Result, Ok, Err}
 use native.Mathlib.Numerals.{add-one}
-use borrow.Author.Tests.{lt-ltb, le-ltb, eq-eqb, ne_eqb}
-use lib.ListN.{length, get_or, take, drop, replicate, length-append, length-take, length-drop, drop_of_length-le}
+use borrow.Author.Tests.{lt-ltb, le-ltb, ne_eqb}
+use lib.ListN.{length, take, drop, length-append, length-take, length-drop, drop_of_length-le}
 use lib.Seq.{paste, length-take-le, take_at, take_all, append_snoc, drop-append-add, drop-drop}
 use Rattle.patterns.specs.Outcome.{Outcome, good, refused, map_good, counted}
 use Rattle.sheet.specs.Answer.{refusal_says}
@@ -15,9 +16,8 @@ use Rattle.sheet.specs.Line.{B, Line, known, form_of_line, line_in, lent, lent_o
 use Rattle.sheet.specs.Sheet.{letter_before, refusal}
 use Rattle.walker.specs.Walk.{lines_of, line_length, line_at, after}
 use Rattle.sheet.specs.Read.{in_front, go_on, checked, tested, tested_in, taken_text, sheet_in, read_of, with_room, read_says, ReadMeets}
-use Rattle.sheet.specs.Inner.Promises.{ParsedAs, FieldsFit, Keeps, NothingSeen, kept_after, AdmittedAs, Admits, Scanned}
+use Rattle.sheet.specs.Inner.Promises.{ParsedAs, FieldsFit, Keeps, fault_number, AdmittedAs, Admits, Scanned}
 use Rattle.sheet.specs.declared.Form.{Form}
-use Rattle.sheet.specs.declared.Form.TheVariants.{Unknown}
 use Rattle.sheet.specs.declared.Refusal.{Refusal}
 use Rattle.sheet.specs.declared.Refusal.TheVariants.{
   TextTooLong,
@@ -30,17 +30,14 @@ use Rattle.sheet.specs.declared.Refusal.TheVariants.{
   LineWrong,
   TextShort,
 }
-use Rattle.sheet.specs.declared.ReadAnswer.{ReadAnswer}
-use Rattle.sheet.specs.declared.ReadAnswer.TheVariants.{Lines, Refused}
 use Rattle.sheet.specs.declared.order.Seen.{Seen}
-use Rattle.sheet.specs.declared.order.Admitted.{Admitted}
-use Rattle.sheet.specs.declared.order.Admitted.TheVariants.{Yes, No}
+use Rattle.sheet.specs.declared.order.Fault.{Fault}
 use Rattle.walker.proofs.Walking.{line_length-le}
 use Rattle.walker.proofs.TextLines.{lines_of_split, lines_of_last}
 use Rattle.sheet.proofs.Lines.{line_in_is, length-lent, line_in_unended}
 use Rattle.sheet.proofs.Sheets.{refused≢good, length-lent_of, render_size}
 use Rattle.sheet.proofs.FormLaws.{formed_known, fields_fit, form_says_one_to_one}
-use Rattle.sheet.proofs.OrderLaws.{no_width, keeps_none}
+use Rattle.sheet.proofs.OrderLaws.{fault_some}
 
 -- The line at a place.
 
@@ -52,13 +49,26 @@ line_at_within s at h = omega (arith, length-line_at s at, line_length-le (drop 
 
 -- A line that is read.
 
-read_form : (bytes : List ℕ) (l : Line) → line_in bytes ≡ some l → form_of_line l ≡ Unknown → ⊥
-read_form bytes l e u = false≢true (sym (ap known u) ∙ formed_known l (line_in_is bytes l e).1)
+-- What is parsed: where there is no form there is no line, otherwise the form is the line's.
+pub parsed_nothing : (bytes numbers : List ℕ) → ParsedAs (line_in bytes) None numbers → line_in bytes ≡ none
+parsed_nothing bytes numbers p = go (line_in bytes) refl p
+  where
+    go : (o : Option Line) → line_in bytes ≡ o → ParsedAs o None numbers → line_in bytes ≡ none
+    go none e q = e
+    go (some l) e q =
+        absurd (false≢true (ap known (form_says_one_to_one None (form_of_line l) q.0) ∙ formed_known l (line_in_is bytes l e).1))
 
--- What is parsed may be asked after.
-pub parsed_fit : (o : Option Line) (form : Form) (numbers : List ℕ) → ParsedAs o form numbers → FieldsFit form
-parsed_fit none form numbers e = rw (form_says_one_to_one form Unknown e) tt
-parsed_fit (some l) form numbers e = rw (form_says_one_to_one form (form_of_line l) e.0) (fields_fit l.letter (suc (length l.numbers)))
+pub parsed_line : {o : Option Line} {form : Form} {numbers : List ℕ} → ParsedAs o (Some form) numbers
+    → (l : Line) × (o ≡ some l) × (Some form ≡ form_of_line l) × (numbers ≡ lent l)
+parsed_line {o = none} {form = form} e = absurd (some_form form (form_says_one_to_one (Some form) None e))
+  where
+    some_form : (f : Form) → Some f ≡ None → ⊥
+    some_form f e = false≢true (sym (ap known e))
+parsed_line {o = some l} {form = form} e = (l, refl, form_says_one_to_one (Some form) (form_of_line l) e.0, e.1)
+
+-- It may be asked after.
+pub parsed_fit : (bytes : List ℕ) (form : Form) (numbers : List ℕ) → ParsedAs (line_in bytes) (Some form) numbers → FieldsFit form
+parsed_fit bytes form numbers p = let (l, is, of_line, same) = parsed_line {o = line_in bytes} p in fields_fit form l.letter (suc (length l.numbers)) (sym of_line)
 
 -- What is answered from a line on that is taken for o, where the rest follows it.
 abbrev onward : List Line → List ℕ → ℕ → Option Line → Outcome (List Line)
@@ -111,10 +121,10 @@ behind_front put l (good ls) = ap good (sym (append_snoc put l ls))
 behind_front put l (refused number line) = refl
 
 -- n lines of the text are right and their numbers put, up to `at`; this is kept of them, and the answer is that of the rest. `start` is what the numbers were.
-pub record Reading (text start : List ℕ) (seen : Seen) (widths : List ℕ) (at n : ℕ) (numbers : List ℕ) : Type 0 where
+pub record Reading (text start : List ℕ) (seen : Seen) (at n : ℕ) (numbers : List ℕ) : Type 0 where
   pub before : List Line
   pub put : List Line
-  pub keeps : Keeps before seen widths
+  pub keeps : Keeps before seen
   pub count : length before ≡ n
   pub size : length put ≡ n
   pub within : at ≤ length text
@@ -123,13 +133,13 @@ pub record Reading (text start : List ℕ) (seen : Seen) (widths : List ℕ) (at
   pub room : 8 * (length text / 20) ≤ length start
   pub holds : numbers ≡ lent_of put ++ drop (8 * n) start
 
-pub begun : (text start : List ℕ) (seen : Seen) → NothingSeen seen → 8 * (length text / 20) ≤ length start → Reading text start seen (replicate 65 0) 0 0 start
+pub begun : (text start : List ℕ) (seen : Seen) → Keeps [] seen → 8 * (length text / 20) ≤ length start → Reading text start seen 0 0 start
 unfolding sheet_in
-begun text start seen nothing room =
+begun text start seen keeps room =
     record {
       before = [];
       put = [];
-      keeps = keeps_none seen nothing (replicate 65 0) refl (no_width 65);
+      keeps = keeps;
       count = refl;
       size = refl;
       within = zero-le;
@@ -139,13 +149,7 @@ begun text start seen nothing room =
       holds = refl;
     }
 
-yes≢no : {mark number : ℕ} → Yes mark ≡ No number → ⊥
-yes≢no e = false≢true cc
-
-no_number : {m n : ℕ} → No m ≡ No n → m ≡ n
-no_number e = cc
-
-module _ {text start : List ℕ} {seen : Seen} {widths : List ℕ} {at n : ℕ} {numbers : List ℕ} (r : Reading text start seen widths at n numbers) where
+module _ {text start : List ℕ} {seen : Seen} {at n : ℕ} {numbers : List ℕ} (r : Reading text start seen at n numbers) where
   put-length : length (lent_of r.put) ≡ 8 * n
   put-length = omega (arith, length-lent_of r.put, r.size)
 
@@ -156,7 +160,7 @@ module _ {text start : List ℕ} {seen : Seen} {widths : List ℕ} {at n : ℕ} 
       ∙ omega (arith, put-length, length-drop (8 * n) start, r.few, r.within, r.room)
 
   -- A refused text.
-  pub scan_refused : (answer : ReadAnswer) (number line : ℕ) → read_says answer ≡ refused number line → sheet_in text ≡ refused number line → Scanned text answer numbers
+  pub scan_refused : (answer : Result ℕ Refusal) (number line : ℕ) → read_says answer ≡ refused number line → sheet_in text ≡ refused number line → Scanned text answer numbers
   scan_refused answer number line says is =
       record { says = says ∙ sym (ap counted is); lines = λ ls e. absurd (refused≢good (sym is ∙ e)) }
 
@@ -175,43 +179,47 @@ module _ {text start : List ℕ} {seen : Seen} {widths : List ℕ} {at n : ℕ} 
         ∙ ap (λ (k : ℕ). onward r.before (drop (at + length line) text) k (line_in (line_at text at))) number
         ∙ ap (onward r.before (drop (at + length line) text) (n + 1)) (sym (ap line_in part) ∙ taken))
 
-    module _ {form : Form} {eight : List ℕ} {answer : Admitted} {after : List ℕ} (parsed : ParsedAs (line_in line) form eight) (a : Admits seen widths form eight answer after) where
+    -- A line that is none.
+    pub line_formless : line_in line ≡ none → sheet_in text ≡ refused 2 (n + 1)
+    line_formless e = outcome_line none e
+
+    module _ {A : Type 0} {form : Form} {eight : List ℕ} {answer : Result A Fault} {next : Seen} (parsed : ParsedAs (line_in line) (Some form) eight) (a : Admits seen form eight answer next) where
       -- An admitted line.
-      record Admitting (next : Seen) : Type 0 where
+      record Admitting : Type 0 where
         is : Line
         taken : line_in line ≡ some is
         same : eight ≡ lent is
         right : refusal r.before is ≡ 0
-        keeps : Keeps (is ∷ r.before) next after
+        keeps : Keeps (is ∷ r.before) next
         long : 20 ≤ length line
 
-      admitting : (mark : ℕ) → answer ≡ Yes mark → Admitting (kept_after seen form (get_or eight 1 0) mark)
-      admitting mark says = by_line (line_in line) refl parsed
-        where
-          known_form : form ≡ Unknown → ⊥
-          known_form u = yes≢no (sym says ∙ a.unknown u)
+      abbrev NotRefused : Type 0
+      NotRefused = (fault : Fault) → answer ≡ Err fault → ⊥
 
-          by_line : (o : Option Line) → line_in line ≡ o → ParsedAs o form eight → Admitting (kept_after seen form (get_or eight 1 0) mark)
-          by_line none e unknown = absurd (known_form (form_says_one_to_one form Unknown unknown))
-          by_line (some l) e p =
-              let admitted : AdmittedAs (kept_after seen form (get_or eight 1 0)) r.before l (Yes mark) after = rw says at (a.each r.before l known_form r.keeps (form_says_one_to_one form (form_of_line l) p.0) p.1) in
-              let (shown, formed) = line_in_is line l e in
-              record { is = l; taken = e; same = p.1; right = admitted.0; keeps = admitted.1; long = omega (arith, ap length shown, render_size l formed) }
+      admitting : NotRefused → Admitting
+      admitting taken =
+          let (l, e, of_line, same) = parsed_line parsed in
+          let (shown, formed) = line_in_is line l e in
+          let (right, keeps) = go answer l taken (a.each r.before l r.keeps of_line same) in
+          record { is = l; taken = e; same = same; right = right; keeps = keeps; long = omega (arith, ap length shown, render_size l formed) }
+        where
+          go : (o : Result A Fault) (l : Line) → ((fault : Fault) → o ≡ Err fault → ⊥) → AdmittedAs r.before l o next → (refusal r.before l ≡ 0) × Keeps (l ∷ r.before) next
+          go (Ok x) l t h = h
+          go (Err fault) l t h = absurd (t fault refl)
 
       -- There is room for its numbers.
-      pub line_fits : (mark : ℕ) → answer ≡ Yes mark → 8 * n + 8 ≤ length numbers
-      line_fits mark says =
-          let l = admitting mark says in
+      pub line_fits : NotRefused → 8 * n + 8 ≤ length numbers
+      line_fits taken =
+          let l = admitting taken in
           omega (arith, l.long, rw (← part) at (line_at_within text at r.within), r.few, r.room, same_size)
 
-      pub line_taken : (mark : ℕ) → answer ≡ Yes mark → (next : Seen) → next ≡ kept_after seen form (get_or eight 1 0) mark → (then : List ℕ)
-          → then ≡ paste numbers (8 * n) eight 8 → Reading text start next after (at + length line) (n + 1) then
-      line_taken mark says next kept then put =
-          let l = admitting mark says in
+      pub line_taken : NotRefused → (then : List ℕ) → then ≡ paste numbers (8 * n) eight 8 → Reading text start next (at + length line) (n + 1) then
+      line_taken taken then put =
+          let l = admitting taken in
           record {
             before = l.is ∷ r.before;
             put = r.put ++ l.is ∷ [];
-            keeps = subst (λ (s : Seen). Keeps (l.is ∷ r.before) s after) (sym kept) l.keeps;
+            keeps = l.keeps;
             count = omega arith;
             size = length-append r.put (l.is ∷ []) ∙ omega (arith, r.size);
             within = rw part (line_at_within text at r.within);
@@ -223,36 +231,24 @@ module _ {text start : List ℕ} {seen : Seen} {widths : List ℕ} {at n : ℕ} 
             holds = put ∙ more_put r.put l.is start numbers eight n r.size r.holds l.same;
           }
 
-      pub line_refused : (number : ℕ) → answer ≡ No number → (sheet_in text ≡ refused number (n + 1)) × (2 ≤ number) × (number ≤ 6)
-      line_refused number says = by_line (line_in line) refl parsed
+      pub line_refused : (fault : Fault) → answer ≡ Err fault → sheet_in text ≡ refused (fault_number fault) (n + 1)
+      line_refused fault says =
+          let (l, e, of_line, same) = parsed_line parsed in
+          let answered : AdmittedAs {A = A} r.before l (Err fault) next = rw says at (a.each r.before l r.keeps of_line same) in
+          outcome_line (some l) e ∙ refused_on l (refusal r.before l) answered
         where
-          refused_on : (l : Line) (k : ℕ) → k ≡ number → 3 ≤ number
+          refused_on : (l : Line) (k : ℕ) → k ≡ fault_number fault
               → behind r.put (go_on (tested k l) (λ m. checked taken_text 3 (m ∷ r.before) (lines_of (drop (at + length line) text))) (n + 1))
-              ≡ refused number (n + 1)
-          refused_on l zero q h = absurd (omega arith)
-          refused_on l (suc k) q h = rw q
-
-          by_line : (o : Option Line) → line_in line ≡ o → ParsedAs o form eight → (sheet_in text ≡ refused number (n + 1)) × (2 ≤ number) × (number ≤ 6)
-          by_line none e unknown =
-              let two : number ≡ 2 = no_number (sym says ∙ a.unknown (form_says_one_to_one form Unknown unknown)) in
-              (rw two (outcome_line none e), omega arith, omega arith)
-          by_line (some l) e p =
-              let of_line : form ≡ form_of_line l = form_says_one_to_one form (form_of_line l) p.0 in
-              let answered : AdmittedAs (kept_after seen form (get_or eight 1 0)) r.before l (No number) after =
-              rw says at (a.each r.before l (λ u. read_form line l e (sym of_line ∙ u)) r.keeps of_line p.1) in
-              (outcome_line (some l) e ∙ refused_on l (refusal r.before l) answered.0 answered.1, omega arith, answered.2)
+              ≡ refused (fault_number fault) (n + 1)
+          refused_on l zero q = absurd (fault_some fault (sym q))
+          refused_on l (suc k) q = rw q
 
   -- After the last line.
   module _ (done : length text ≤ at) where
     outcome_end : sheet_in text ≡ behind r.put (checked taken_text 3 r.before [])
     outcome_end = rw (drop_of_length-le text done) at r.outcome
 
-    pub ended_open : seen.letter ≡ B → sheet_in text ≡ refused 3 (n + 1)
-    ended_open e =
-        let number : suc (length r.before) ≡ n + 1 = omega arith in
-        rw (← number) (rw (eq-eqb (letter_before r.before) B (sym r.keeps.letter ∙ e)) at outcome_end)
-
-    pub ended : (seen.letter ≡ B → ⊥) → Scanned text (Lines n) numbers
+    pub ended : (seen.letter ≡ B → ⊥) → Scanned text (Ok n) numbers
     ended e =
         let all : sheet_in text ≡ good r.put =
         rw (ne_eqb (letter_before r.before) B (λ q. e (r.keeps.letter ∙ q)), append-nil) at outcome_end in
@@ -276,7 +272,7 @@ says≢good (LinesShort line) n e = refused≢good e
 says≢good (LineWrong line) n e = refused≢good e
 says≢good TextShort n e = refused≢good e
 
-pub read_too_long : (text before : List ℕ) → 32768 < length text → ReadMeets text before (Refused TextTooLong) before
+pub read_too_long : (text before : List ℕ) → 32768 < length text → ReadMeets text before (Err TextTooLong) before
 unfolding read_of
 read_too_long text before h = record { says = rw (lt-ltb 32768 (length text) h); lines = rw (lt-ltb 32768 (length text) h) }
 
@@ -285,16 +281,16 @@ module _ (text before : List ℕ) (short : length text ≤ 32768) where
   unfolding read_of
   read_tests o e = rw (le-ltb 32768 (length text) short, e)
 
-  pub read_refused : (r : Refusal) {numbers : List ℕ} → Scanned text (Refused r) numbers → ReadMeets text before (Refused r) before
+  pub read_refused : (r : Refusal) {numbers : List ℕ} → Scanned text (Err r) numbers → ReadMeets text before (Err r) before
   read_refused r scanned = by_outcome (sheet_in text) refl scanned.says
     where
-      by_outcome : (o : Outcome (List Line)) → sheet_in text ≡ o → refusal_says r ≡ counted o → ReadMeets text before (Refused r) before
+      by_outcome : (o : Outcome (List Line)) → sheet_in text ≡ o → refusal_says r ≡ counted o → ReadMeets text before (Err r) before
       by_outcome (good ls) q e = absurd (says≢good r (length ls) e)
       by_outcome (refused number line) q e =
           let meets : read_of text (length before / 8) ≡ refused number line = read_tests (refused number line) q in
           record { says = rw meets e; lines = rw meets }
 
-  module _ {n : ℕ} {numbers : List ℕ} (scanned : Scanned text (Lines n) numbers) where
+  module _ {n : ℕ} {numbers : List ℕ} (scanned : Scanned text (Ok n) numbers) where
     -- The lines that are counted.
     record Counts : Type 0 where
       lines : List Line
@@ -308,7 +304,7 @@ module _ (text before : List ℕ) (short : length text ≤ 32768) where
         by_outcome (good ls) q e = record { lines = ls; read = q; size = cc }
         by_outcome (refused number line) q e = absurd (refused≢good (sym e))
 
-    pub lines_short : length before / 8 < n → ReadMeets text before (Refused (LinesShort (length before / 8 + 1))) before
+    pub lines_short : length before / 8 < n → ReadMeets text before (Err (LinesShort (length before / 8 + 1))) before
     lines_short h =
         let meets : read_of text (length before / 8) ≡ refused 7 (suc (length before / 8)) =
         read_tests (good counts.lines) counts.read
@@ -324,7 +320,7 @@ module _ (text before : List ℕ) (short : length text ≤ 32768) where
     pub lines_held : 8 * n ≤ length numbers
     lines_held = omega (arith, ap length front, front_size, length-take (8 * n) numbers)
 
-    pub lines_copied : n ≤ length before / 8 → (after : List ℕ) → after ≡ take (8 * n) numbers ++ drop (8 * n) before → ReadMeets text before (Lines n) after
+    pub lines_copied : n ≤ length before / 8 → (after : List ℕ) → after ≡ take (8 * n) numbers ++ drop (8 * n) before → ReadMeets text before (Ok n) after
     lines_copied h after is =
         let meets : read_of text (length before / 8) ≡ good counts.lines =
         read_tests (good counts.lines) counts.read

@@ -1,10 +1,11 @@
 -- A line: its letter, kind and numbers; the text that it is rendered as; the eight numbers that a lent line holds. Assumes nothing.
 use Rattle.std.specs.Prelude.{Bool, true, false, cond, ◌&&◌, List, [], ◌∷◌, ◌++◌, ℕ, zero, suc, ◌+◌, ◌-◌, ◌*◌, ◌/◌, eqb, leb, length, get_or, take, drop}
 use Rattle.std.proofs.Math.Option.{Option, none, some}
+use Rattle.std.specs.Prelude.{Option as Maybe, Some, None}
 use Rattle.patterns.specs.Outcome.{Outcome, good, refused, padded}
 use Rattle.columns.specs.Column.{largest_number, column, number_in}
 use Rattle.sheet.specs.declared.Form.{Form}
-use Rattle.sheet.specs.declared.Form.TheVariants.{Kind, Body, Head, Row, Unknown}
+use Rattle.sheet.specs.declared.Form.TheVariants.{Kind, Body, Head, Row}
 
 -- The letters' bytes.
 abbrev pub K : ℕ
@@ -38,35 +39,32 @@ text_of [] = []
 text_of (l ∷ ls) = render l ++ text_of ls
 
 -- Two to seven columns: a kind and one to six fields.
-abbrev pub with_fields : ℕ → (ℕ → Form) → Form
-with_fields c form = cond (leb 2 c) (cond (leb c 7) (form (c - 1)) Unknown) Unknown
+abbrev pub with_fields : ℕ → (ℕ → Form) → Maybe Form
+with_fields c form = cond (leb 2 c) (cond (leb c 7) (Some (form (c - 1))) None) None
 
 -- A letter and a column count decide the form. A form says how many fields there are; a K line has its kind and its width.
-unfoldable pub form_of : ℕ → ℕ → Form
+unfoldable pub form_of : ℕ → ℕ → Maybe Form
 form_of letter c =
-    cond (eqb letter K) (cond (eqb c 2) Kind Unknown)
-    (cond (eqb letter B) (with_fields c Body) (cond (eqb letter H) (with_fields c Head) (cond (eqb letter R) (with_fields c Row) Unknown)))
+    cond (eqb letter K) (cond (eqb c 2) (Some Kind) None)
+    (cond (eqb letter B) (with_fields c Body) (cond (eqb letter H) (with_fields c Head) (cond (eqb letter R) (with_fields c Row) None)))
 
 -- Document 01's numbers for each form: the letter's byte and how many fields there are; 2 where there is no such form.
-abbrev pub form_says : Form → Outcome (ℕ × ℕ)
-form_says Kind = good (K, 1)
-form_says (Body n) = good (B, n)
-form_says (Head n) = good (H, n)
-form_says (Row n) = good (R, n)
-form_says Unknown = refused 2 0
+abbrev pub form_says : Maybe Form → Outcome (ℕ × ℕ)
+form_says (Some Kind) = good (K, 1)
+form_says (Some (Body n)) = good (B, n)
+form_says (Some (Head n)) = good (H, n)
+form_says (Some (Row n)) = good (R, n)
+form_says None = refused 2 0
 
-abbrev pub known : Form → Bool
-known Kind = true
-known (Body n) = true
-known (Head n) = true
-known (Row n) = true
-known Unknown = false
+abbrev pub known : Maybe Form → Bool
+known (Some form) = true
+known None = false
 
 abbrev pub in_range : List ℕ → Bool
 in_range [] = true
 in_range (n ∷ ns) = leb n largest_number && in_range ns
 
-abbrev pub form_of_line : Line → Form
+abbrev pub form_of_line : Line → Maybe Form
 form_of_line l = form_of l.letter (suc (length l.numbers))
 
 -- A line that has a text.

@@ -1,13 +1,12 @@
 -- Read: what it answers for every text and every number of lent lines. Assumes nothing.
-use Rattle.std.specs.Prelude.{◌≡◌, Bool, true, false, cond, List, [], ◌∷◌, ℕ, zero, suc, ◌/◌, eqb, ltb, length}
+use Rattle.std.specs.Prelude.{◌≡◌, cond, List, [], ◌∷◌, ℕ, zero, suc, ◌/◌, eqb, ltb, length, Result, Ok, Err}
 use Rattle.std.proofs.Math.Option.{Option, none, some}
 use Rattle.patterns.specs.Outcome.{Outcome, good, refused, map_good, counted, held}
 use Rattle.sheet.specs.Line.{B, Line, line_in, line_size, lent_of}
 use Rattle.sheet.specs.Sheet.{letter_before, refusal}
 use Rattle.walker.specs.Walk.{lines_of}
 use Rattle.sheet.specs.Answer.{refusal_says}
-use Rattle.sheet.specs.declared.ReadAnswer.{ReadAnswer}
-use Rattle.sheet.specs.declared.ReadAnswer.TheVariants.{Lines, Refused}
+use Rattle.sheet.specs.declared.Refusal.{Refusal}
 
 -- What one line of the input is taken for, after the lines before it: a line, or a refusal's number.
 pub data Taken : Type 0 where
@@ -56,11 +55,11 @@ unfoldable pub read_of : List ℕ → ℕ → Outcome (List Line)
 read_of text room = cond (ltb text_limit (length text)) (refused 1 0) (with_room room (sheet_in text))
 
 -- Document 01's numbers for each answer.
-abbrev pub read_says : ReadAnswer → Outcome ℕ
-read_says (Lines n) = good n
-read_says (Refused r) = refusal_says r
+abbrev pub read_says : Result ℕ Refusal → Outcome ℕ
+read_says (Ok n) = good n
+read_says (Err r) = refusal_says r
 
 -- The contract of read, for every text and all lent lines.
-pub record ReadMeets (text before : List ℕ) (answer : ReadAnswer) (after : List ℕ) : Type 0 where
+pub record ReadMeets (text before : List ℕ) (answer : Result ℕ Refusal) (after : List ℕ) : Type 0 where
   pub says : read_says answer ≡ counted (read_of text (length before / line_size))
   pub lines : after ≡ held (map_good lent_of (read_of text (length before / line_size))) before

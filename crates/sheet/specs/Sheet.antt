@@ -1,5 +1,5 @@
 -- When lines are a sheet: the order of lines, kinds and widths, marks, counts. Each line is tested against the lines before it, which stand in `before`, the latest first. Assumes nothing.
-use Rattle.std.specs.Prelude.{◌≡◌, Bool, true, false, cond, not, ◌&&◌, ◌||◌, List, [], ◌∷◌, ℕ, zero, suc, ◌+◌, ◌-◌, ◌≤◌, ◌<◌, max, eqb, leb, ltb, length, get_or}
+use Rattle.std.specs.Prelude.{◌≡◌, Bool, true, cond, not, ◌&&◌, ◌||◌, List, [], ◌∷◌, ℕ, suc, max, eqb, leb, ltb, length, get_or}
 use Rattle.sheet.specs.Line.{K, B, H, R, Line, well_formed}
 
 -- The letter of the line before; 0 where there is none.

@@ -1,13 +1,12 @@
 -- Write: what it answers for all lent lines and all lent text. Assumes nothing.
-use Rattle.std.specs.Prelude.{◌≡◌, Bool, true, false, cond, ◌&&◌, List, [], ◌∷◌, ℕ, zero, suc, eqb, ltb, length, get_or, take, drop}
+use Rattle.std.specs.Prelude.{◌≡◌, Bool, cond, ◌&&◌, List, [], ◌∷◌, ℕ, zero, suc, eqb, ltb, length, get_or, take, drop, Result, Ok, Err}
 use Rattle.patterns.specs.Outcome.{Outcome, good, refused, counted, held}
 use Rattle.columns.specs.Column.{same}
 use Rattle.sheet.specs.Line.{K, Line, well_formed, line_size, lent, text_of}
 use Rattle.sheet.specs.Sheet.{width_of, refusal}
 use Rattle.sheet.specs.Read.{Taken, takes, refuses, checked, text_limit}
 use Rattle.sheet.specs.Answer.{refusal_says}
-use Rattle.sheet.specs.declared.WriteAnswer.{WriteAnswer}
-use Rattle.sheet.specs.declared.WriteAnswer.TheVariants.{Bytes, Refused}
+use Rattle.sheet.specs.declared.Refusal.{Refusal}
 
 -- How many of a lent line's six numbers are used: a K line's width, otherwise one for each field of its kind.
 abbrev pub used_numbers : List Line → List ℕ → ℕ
@@ -48,11 +47,11 @@ unfoldable pub write_of : List ℕ → ℕ → Outcome (List ℕ)
 write_of numbers room = written room (sheet_held numbers)
 
 -- Document 01's numbers for each answer.
-abbrev pub write_says : WriteAnswer → Outcome ℕ
-write_says (Bytes n) = good n
-write_says (Refused r) = refusal_says r
+abbrev pub write_says : Result ℕ Refusal → Outcome ℕ
+write_says (Ok n) = good n
+write_says (Err r) = refusal_says r
 
 -- The contract of write, for all lent lines and all lent text.
-pub record WriteMeets (numbers before : List ℕ) (answer : WriteAnswer) (after : List ℕ) : Type 0 where
+pub record WriteMeets (numbers before : List ℕ) (answer : Result ℕ Refusal) (after : List ℕ) : Type 0 where
   pub says : write_says answer ≡ counted (write_of numbers (length before))
   pub text : after ≡ held (write_of numbers (length before)) before

@@ -12,8 +12,7 @@ ghost use Rattle.sheet.specs.Read.{ReadMeets};
 ghost use Rattle.sheet.specs.Write.{WriteMeets};
 
 pub use columns::column;
-use lent::Measured;
-pub use patterns::{PatternAnswer, digits, digits_in, pattern, pattern_table};
+pub use patterns::{digits, digits_in, pattern, pattern_table};
 
 // The first number of a line that declares a kind.
 pub const LETTER_K: u32 = b'K' as u32;
@@ -28,7 +27,7 @@ pub const LETTER_H: u32 = b'H' as u32;
 pub const LETTER_R: u32 = b'R' as u32;
 
 // Why a call is refused. A refusal that names a line holds its number, counted from 1.
-#[derive(Drop)]
+#[derive(Clone, Copy, PartialEq, Eq)]
 pub enum Refusal {
     // The text is over 32,768 bytes.
     TextTooLong,
@@ -51,24 +50,10 @@ pub enum Refusal {
 }
 
 // A refusal in document 01's numbers; line 0 where none is named.
-#[derive(Drop)]
+#[derive(Clone, Copy)]
 pub struct RefusalNumbers {
-    pub number: u32,
+    pub number: usize,
     pub line: usize,
-}
-
-// What read answers: how many lines it read, or the refusal.
-#[derive(Drop)]
-pub enum ReadAnswer {
-    Lines(usize),
-    Refused(Refusal),
-}
-
-// What write answers: how many bytes it wrote, or the refusal.
-#[derive(Drop)]
-pub enum WriteAnswer {
-    Bytes(usize),
-    Refused(Refusal),
 }
 
 // How a line is taken apart, with the number of its fields.
@@ -78,40 +63,35 @@ pub enum Form {
     Body(usize),
     Head(usize),
     Row(usize),
-    // Not a form of a line.
-    Unknown,
 }
 
-// Reads a text into lent lines, eight numbers each. A good call changes the lines that it counts and nothing else; a refusal changes nothing.
-pub fn read(text: &[u8], lines: &mut [u32]) -> ReadAnswer
+// Reads a text into lent lines, eight numbers each, and answers how many lines. A good call changes the lines that it counts and nothing else; a refusal changes nothing.
+pub fn read(text: &[u8], lines: &mut [u32]) -> Result<usize, Refusal>
     ensures { ReadMeets text.now lines.old result lines.new }
 {
     if 32768 < text.len() {
-        return ReadAnswer::Refused(Refusal::TextTooLong);
+        return Err(Refusal::TextTooLong);
     }
-    if 5120 < text.len() {
-        return text::read_long(text, lines);
+    // 5,120 bytes can have 256 lines, the longest text 1,638: less room is cleared for a small sheet.
+    if text.len() <= 5120 {
+        return text::read_with::<2048>(text, lines);
     }
-    text::read_short(text, lines)
+    text::read_with::<13104>(text, lines)
 }
 
-// Writes lent lines, eight numbers each, as text. A good call changes the bytes that it counts and nothing else; a refusal changes nothing.
-pub fn write(lines: &[u32], text: &mut [u8]) -> WriteAnswer
+// Writes lent lines, eight numbers each, as text, and answers how many bytes. A good call changes the bytes that it counts and nothing else; a refusal changes nothing.
+pub fn write(lines: &[u32], text: &mut [u8]) -> Result<usize, Refusal>
     ensures { WriteMeets lines.now text.old result text.new }
 {
-    match lent::measure(lines) {
-        Measured::Wrong(line) => WriteAnswer::Refused(Refusal::LineWrong(line)),
-        Measured::Size(size) => {
-            if 32768 < size {
-                return WriteAnswer::Refused(Refusal::TextTooLong);
-            }
-            if text.len() < size {
-                return WriteAnswer::Refused(Refusal::TextShort);
-            }
-            lent::fill_text(lines, text);
-            WriteAnswer::Bytes(size)
-        }
+    let size = lent::measure(lines)?;
+    if 32768 < size {
+        return Err(Refusal::TextTooLong);
     }
+    if text.len() < size {
+        return Err(Refusal::TextShort);
+    }
+    lent::fill_text(lines, text);
+    Ok(size)
 }
 
 // The number and the line of a refusal.

@@ -5,7 +5,7 @@ ghost use Rattle.std.specs.Prelude.{◌≡◌, ℕ, ◌+◌, ◌*◌, ◌≤◌,
 ghost use Rattle.steps.specs.Showing.{record_at, shown_at, count_of, showing};
 
 // A step: rule, H line within it (1 to 4), from field, to field, fresh (1) or carried (0).
-#[derive(Clone, Copy)]
+#[derive(Clone, Copy, Default)]
 pub struct StepRecord {
     pub rule: u16,
     pub head: u16,
@@ -34,10 +34,8 @@ fn fill(records: &mut [StepRecord], numbers: &[u16], n: usize)
     requires { (n ≤ length records.old) × (n * 5 ≤ length numbers.now) }
     ensures { records.new ≡ showing numbers.now records.old n }
 {
-    let mut i: usize = 0;
-    while i < n {
-        records[i] = step_at(numbers, i);
-        i += 1;
+    for (i, record) in records[..n].iter_mut().enumerate() {
+        *record = step_at(numbers, i);
     }
 }
 
@@ -45,12 +43,11 @@ fn fill(records: &mut [StepRecord], numbers: &[u16], n: usize)
 fn count(records: usize, numbers: usize, n: usize) -> usize
     ensures { result ≡ count_of records numbers n }
 {
-    if n <= records {
-        if n <= numbers / 5 {
-            return n;
-        }
+    if n <= records && n <= numbers / 5 {
+        n
+    } else {
+        0
     }
-    0
 }
 
 // Shows `n` steps, or none where the records or the numbers are too few, and answers how many. The rest of the records is as it was.
@@ -63,35 +60,13 @@ pub fn show(records: &mut [StepRecord], numbers: &[u16], n: usize) -> usize
     m
 }
 
-// The first step, shown in a record of its own; all zeros where the numbers are fewer than five.
-fn first_shown(numbers: &[u16]) -> StepRecord
-    ensures { result ≡ shown_at numbers.now 0 }
-{
-    let none = StepRecord {
-        rule: 0,
-        head: 0,
-        from: 0,
-        to: 0,
-        fresh: 0,
-    };
-    let mut records = [none; 1];
-    show(&mut records, numbers, 1);
-    records[0]
-}
-
 // Step `i`, counted from 0, as it is shown; all zeros where the numbers hold none.
 pub fn shown_at(numbers: &[u16], i: usize) -> StepRecord
     ensures { result ≡ shown_at numbers.now i }
 {
     if i < numbers.len() / 5 {
-        let from = i * 5;
-        return first_shown(&numbers[from..]);
-    }
-    StepRecord {
-        rule: 0,
-        head: 0,
-        from: 0,
-        to: 0,
-        fresh: 0,
+        step_at(numbers, i)
+    } else {
+        StepRecord::default()
     }
 }

@@ -19,10 +19,8 @@ fn clear8(text: &[u8], i: usize) -> bool
     ensures { result ≡ true → Clear text.now i (i + 8) }
 {
     let mut clear = true;
-    let mut k: usize = 0;
-    while k < 8 {
-        clear = clear & (text[i + k] != 10);
-        k += 1;
+    for &byte in &text[i..i + 8] {
+        clear &= byte != 10;
     }
     clear
 }
@@ -36,6 +34,7 @@ fn skip(text: &[u8], at: usize) -> usize
     }
     let last = text.len() - 16;
     let mut i = at;
+    // A `while`: two groups of eight bytes a turn, on the path that each byte of a text takes; it stops at one of them, and says where.
     while i <= last {
         if !clear8(text, i) {
             return i;
@@ -52,12 +51,10 @@ fn skip(text: &[u8], at: usize) -> usize
 fn line_end(text: &[u8], at: usize) -> usize
     ensures { result ≡ line_end text.now at }
 {
-    let mut i = skip(text, at);
-    while i < text.len() {
+    for i in skip(text, at)..text.len() {
         if text[i] == 10 {
             return i + 1;
         }
-        i += 1;
     }
     at
 }

@@ -1,29 +1,17 @@
--- `polynomial` meets its contract: the value from each coefficient on, the last first. Assumes nothing.
-use mathlib.Core.Path.{◌≡◌, sym, ap, ◌∙◌}
-use mathlib.Core.List.{List}
-use Prim.Native.Nat.{ℕ, ◌+◌, ◌-◌}
-use native.Mathlib.Omega.{arith}
-use lib.ListN.{get_or, drop}
-use lib.Seq.{drop-length}
-use Rattle.arithmetic.specs.Capped.{capped, polynomial as polynomial_of}
-use Rattle.arithmetic.proofs.CappedLaws.{polynomial_before}
+-- `polynomial` meets its contract: the value of the coefficients passed, the last first. Assumes nothing.
+use mathlib.Core.Path.{ap, ◌∙◌}
+use Prim.Native.Nat.{ℕ, ◌+◌}
+use Rattle.arithmetic.specs.Capped.{capped}
+use Rattle.arithmetic.proofs.CappedLaws.{valued_none, valued_more, valued_all}
 use Rattle.arithmetic.proofs.polynomial.Goals as goal
 
-pub loop-k-init : goal.loop-k-init
-loop-k-init c = (omega arith, sym (ap (λ (cs : List ℕ). capped (polynomial_of cs c.args.t)) (drop-length c.args.coefficients.now)))
+pub loop-coefficient-init : goal.loop-coefficient-init
+loop-coefficient-init c = valued_none _ _ _ (ap (λ i. i.iter.rest.now) c.into_iter-coefficient-iterator.ensures.into_iter_gives ∙ ap (λ i. i.rest.now) c.rev-coefficient-items.ensures.source ∙ c.iter.ensures.rest)
 
-pub loop-k-preserved : goal.loop-k-preserved
-loop-k-preserved c =
-    let a = c.args in
-    let at = c.loop-k in (
-      omega arith,
-      c.plus_capped-sum.ensures ∙ ap (λ (n : ℕ). capped (get_or a.coefficients.now (at.k - 1) 0 + n)) c.times_capped.ensures
-          ∙ polynomial_before a.coefficients.now a.t (at.k - 1) at.k at.sum (omega arith) (omega arith) at.invariant.1,
-    )
+pub loop-coefficient-preserved : goal.loop-coefficient-preserved
+loop-coefficient-preserved c =
+    valued_more _ _ _ c.loop-coefficient.invariant c.in-Some.ensures.steps
+    (c.plus_capped-sum.ensures ∙ ap (λ (n : ℕ). capped (c.in-Some.field-0.now + n)) c.times_capped.ensures)
 
 pub returns : goal.returns
-returns c =
-    let a = c.args in
-    let at = c.loop-k in
-    let none : at.k ≡ 0 = omega arith in
-    at.invariant.1 ∙ ap (λ (k : ℕ). capped (polynomial_of (drop k a.coefficients.now) a.t)) none
+returns c = valued_all c.loop-coefficient.invariant c.in-None.ensures.steps.0

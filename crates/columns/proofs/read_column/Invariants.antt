@@ -1,10 +1,7 @@
--- `read_column` meets its contract. The loop's invariant: the first i places are n's. The measure is what is left of the eight. Assumes nothing.
-use Prim.Native.Nat.{◌-◌}
+-- `read_column` meets its contract. The loop's invariant: the places passed are n's. Assumes nothing.
+use Prim.Native.Nat.{◌+◌}
 use Rattle.columns.proofs.DigitLaws.{Read}
 use Rattle.columns.proofs.read_column.Given as goal
 
-abbrev pub invariant-loop-i : goal.invariant-loop-i
-invariant-loop-i l = Read l.s l.at l.i l.n
-
-abbrev pub decreases-loop-i : goal.decreases-loop-i
-decreases-loop-i l = 8 - l.i
+abbrev pub invariant-loop-b : goal.invariant-loop-b
+invariant-loop-b l = Read l.bytes (l.b-index + 1) l.n

@@ -1,23 +1,7 @@
--- `wide_column` meets its contract: each place is what `place` answers. Assumes nothing.
-use mathlib.Core.List.{[], ◌∷◌}
-use Prim.Native.Nat.{◌+◌, ◌%◌}
+-- `wide_column` meets its contract: its twelve places are the last eleven and the digit. Assumes nothing.
 use Rattle.columns.specs.Column.{wide_column}
 use Rattle.columns.proofs.wide_column.Goals as goal
 
 pub returns : goal.returns
 unfolding wide_column
-returns c =
-    let n = c.args.n in
-    λ i.
-    c.place.ensures i
-    ∷ c.place-2.ensures i
-    ∷ c.place-3.ensures i
-    ∷ c.place-4.ensures i
-    ∷ c.place-5.ensures i
-    ∷ c.place-6.ensures i
-    ∷ c.place-7.ensures i
-    ∷ c.place-8.ensures i
-    ∷ c.place-9.ensures i
-    ∷ c.place-10.ensures i
-    ∷ c.place-11.ensures i
-    ∷ (48 + n % 10) ∷ []
+returns c = c.justified.ensures

@@ -1,5 +1,5 @@
 -- The sentences of lent steps, as the code meets them: lent lines, lent steps, and how many of the steps are the trail's. Assumes nothing.
-use Rattle.std.specs.Prelude.{◌≡◌, Bool, List, [], ◌++◌, ℕ, zero, suc, ◌+◌, ◌-◌, ◌*◌, ◌≤◌, ◌<◌, ltb, length, get_or}
+use Rattle.std.specs.Prelude.{◌≡◌, Bool, List, [], ◌++◌, ℕ, zero, suc, ◌+◌, ◌-◌, ◌*◌, ◌≤◌, ◌<◌, ltb, length, get_or, Result, Ok, Err}
 use Rattle.columns.specs.Column.{put}
 use Rattle.chase.specs.Rules.{Rule, nth}
 use Rattle.chase.specs.Steps.{Step}
@@ -10,10 +10,9 @@ use Rattle.sentences.specs.Sentence.{sentence, said, body_kind, made_kind}
 use Rattle.sentences.specs.Inner.Naming.{Names}
 use Rattle.explaining.specs.Answer.{explain_refusal_number, explain_refusal_line}
 use Rattle.explaining.specs.declared.sentence.Sentence.{Sentence}
+use Rattle.explaining.specs.declared.text.Told.{Told}
 use Rattle.explaining.specs.declared.ExplainRefusal.{ExplainRefusal}
 use Rattle.explaining.specs.declared.ExplainRefusal.TheVariants.{TextShort}
-use Rattle.explaining.specs.declared.ExplainAnswer.{ExplainAnswer}
-use Rattle.explaining.specs.declared.ExplainAnswer.TheVariants.{Bytes, Refused}
 
 -- The sentence of these numbers.
 abbrev pub sentence_for : Sentence → List ℕ
@@ -60,10 +59,21 @@ abbrev pub text_to : List Rule → List ℕ → ℕ → ℕ → List ℕ
 text_to rules numbers trail zero = []
 text_to rules numbers trail (suc n) = text_to rules numbers trail n ++ sentence_of rules (ltb trail (n + 1)) (step_at numbers n)
 
+-- What is told can be: the rules of the lines begin there, and the steps name them.
+pub record Tells (t : Told) : Type 0 where
+  pub found : Starts t.lines.now t.starts
+  pub there : 5 * t.count ≤ length t.steps.now
+  pub few : t.count ≤ 4096
+  pub named : NamedTo (rules_in t.lines.now) t.steps.now t.count
+
+-- Its sentences.
+abbrev pub text_told : Told → List ℕ
+text_told t = text_to (rules_in t.lines.now) t.steps.now t.trail t.count
+
 -- A text that fits stands at the front, and the rest is as before; one that does not changes nothing.
-abbrev pub TextWritten : List ℕ → List ℕ → ExplainAnswer → List ℕ → Type 0
-TextWritten new before (Bytes size) after = (size ≡ length new) × (length new ≤ length before) × (after ≡ put before 0 new)
-TextWritten new before (Refused r) after = (r ≡ TextShort) × (length before < length new) × (after ≡ before)
+abbrev pub TextWritten : List ℕ → List ℕ → Result ℕ ExplainRefusal → List ℕ → Type 0
+TextWritten new before (Ok size) after = (size ≡ length new) × (length new ≤ length before) × (after ≡ put before 0 new)
+TextWritten new before (Err r) after = (r ≡ TextShort) × (length before < length new) × (after ≡ before)
 
 -- A refusal of explaining that is one of judging.
 abbrev pub SameRefusal : JudgeRefusal → ExplainRefusal → Type 0

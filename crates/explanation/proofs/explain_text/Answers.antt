@@ -1,15 +1,17 @@
 -- `explanation::explain_text` meets its contract. Assumes nothing.
 use mathlib.Core.Path.{refl}
-use native.Mathlib.Omega.{arith}
-use Rattle.report.proofs.Reports.{filled-front}
+use Rattle.std.proofs.Common.{arith}
+use Rattle.report.proofs.Reports.{filled_by, sheet_read, text_meets}
+use Rattle.explanation.specs.Explanation.{Prints}
 use Rattle.explanation.proofs.explain_text.Goals as goal
 
-pub returns-then-output-lt299008 : goal.returns-then-output-lt299008
-returns-then-output-lt299008 c = (omega arith, refl, refl, refl)
-
-pub explanation-requires : goal.explanation-requires
-explanation-requires c = omega arith
+pub print_text-requires : goal.print_text-requires
+print_text-requires c = record {
+  room = omega arith;
+  tells = λ enough lines e given lent gives lends. (rw gives (sheet_read c.args.text.now lines e), rw lends enough);
+}
 
 pub returns : goal.returns
 returns c =
-    (omega arith, filled-front _ c.explanation.result _ c.explanation.ensures)
+    text_meets _ c.args.text.now c.args.output.now _ (Prints c.args.text.now) (λ number line e. Prints.unread number line e refl) 299008 c.print_text.result c.print_text.ensures
+    (λ size lines enough e t. filled_by _ _ _ (λ p j. Prints.read lines e j) (rw (t.gives, t.lends, t.leaves) at t.met))

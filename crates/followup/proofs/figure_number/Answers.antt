@@ -2,8 +2,8 @@
 use mathlib.Core.Path.{sym, ap}
 use Rattle.forecasting.specs.Answer.{figure_of}
 use Rattle.followup.specs.Reply.{figure_number}
-use Rattle.forecasting.specs.declared.Figure.{Figure}
+use Rattle.std.proofs.Common.{ℕ, Option}
 use Rattle.followup.proofs.figure_number.Goals as goal
 
-pub returns-in-Beyond : goal.returns-in-Beyond
-returns-in-Beyond c = ap (λ (f : Figure). figure_number (figure_of f)) (sym c.in-Beyond.is)
+pub returns-in-None : goal.returns-in-None
+returns-in-None c = ap (λ (f : Option ℕ). figure_number (figure_of f)) (sym c.in-None.is)

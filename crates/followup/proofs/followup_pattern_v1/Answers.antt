@@ -17,12 +17,12 @@ found c = c.pattern.ensures ∙ pattern-found _ _ _ _ c.count_of-count.ensures c
 pub slice_bounds-pattern-end : goal.slice_bounds-pattern-end
 slice_bounds-pattern-end c = sym (length-take-le _ _ (omega (arith, c.decode.auto.numbers)))
 
-pub returns-in-Number : goal.returns-in-Number
-returns-in-Number c =
-    subst (λ o. Replies o c.counts.result) (ap pattern_says (sym c.in-Number.is) ∙ found (goal.at.returns-in-Number c).After-pattern)
+pub returns-in-Some : goal.returns-in-Some
+returns-in-Some c =
+    subst (λ o. Replies o c.counts.result) (ap pattern_says (sym c.in-Some.is) ∙ found (goal.at.returns-in-Some c).After-pattern)
     c.counts.ensures
 
-pub returns-in-FieldCount : goal.returns-in-FieldCount
-returns-in-FieldCount c =
-    subst (λ o. Replies o c.no_count.result) (ap pattern_says (sym c.in-FieldCount.is) ∙ found (goal.at.returns-in-FieldCount c).After-pattern)
+pub returns-in-None : goal.returns-in-None
+returns-in-None c =
+    subst (λ o. Replies o c.no_count.result) (ap pattern_says (sym c.in-None.is) ∙ found (goal.at.returns-in-None c).After-pattern)
     c.no_count.ensures

@@ -3,7 +3,8 @@ use mathlib.Core.Path.{◌≡◌, refl, sym, subst}
 use Prim.Native.Nat.{◌≤◌}
 use native.Mathlib.Omega.{arith}
 use Rattle.forecasting.specs.Answer.{forecast_says, forecast_refusal_number}
-use Rattle.forecasting.specs.declared.ForecastAnswer.{ForecastAnswer}
+use Rattle.std.proofs.Common.{Result}
+use Rattle.forecasting.specs.declared.Figures.{Figures}
 use Rattle.forecasting.specs.declared.ForecastRefusal.{ForecastRefusal}
 use Rattle.forecasting.specs.declared.ForecastRefusal.TheVariants.{LineWrong, ShapesOver, Endless}
 use Rattle.followup.specs.Reply.{ForecastReplies}
@@ -16,18 +17,18 @@ small ShapesOver = omega arith
 small Endless = omega arith
 
 -- what a case says, said of the answer
-said : {case : ForecastAnswer} (answer : ForecastAnswer) (r : ForecastReply) → answer ≡ case → ForecastReplies (forecast_says case) r → ForecastReplies (forecast_says answer) r
-said answer r is says = subst (λ (a : ForecastAnswer). ForecastReplies (forecast_says a) r) (sym is) says
+said : {case : Result Figures ForecastRefusal} (answer : Result Figures ForecastRefusal) (r : ForecastReply) → answer ≡ case → ForecastReplies (forecast_says case) r → ForecastReplies (forecast_says answer) r
+said answer r is says = subst (λ (a : Result Figures ForecastRefusal). ForecastReplies (forecast_says a) r) (sym is) says
 
 pub overflow_cast-result : goal.overflow_cast-result
-overflow_cast-result c = omega (arith, c.refusal_numbers-said.ensures.0, small c.in-Refused.refusal)
+overflow_cast-result c = omega (arith, c.refusal_numbers-said.ensures.0, small c.in-Err.refusal)
 
-pub returns-in-Foretold : goal.returns-in-Foretold
-returns-in-Foretold c =
-    said _ _ c.in-Foretold.is
-    (refl, refl, c.figure_number.ensures, c.figure_number-in-Foretold.ensures, c.figure_number-in-Foretold-2.ensures)
+pub returns-in-Ok : goal.returns-in-Ok
+returns-in-Ok c =
+    said _ _ c.in-Ok.is
+    (refl, refl, c.figure_number.ensures, c.figure_number-in-Ok.ensures, c.figure_number-in-Ok-2.ensures)
 
-pub returns-in-Refused : goal.returns-in-Refused
-returns-in-Refused c =
+pub returns-in-Err : goal.returns-in-Err
+returns-in-Err c =
     let numbers = c.refusal_numbers-said.ensures in
-    said _ _ c.in-Refused.is (numbers.0, numbers.1, refl, refl, refl)
+    said _ _ c.in-Err.is (numbers.0, numbers.1, refl, refl, refl)

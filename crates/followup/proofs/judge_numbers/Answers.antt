@@ -1,6 +1,7 @@
 -- `followup::judge_numbers` meets its contract: a law of `StepBytes` for what judging answers. Assumes nothing.
-use Prim.Native.Nat.{◌+◌, ◌≤◌}
+use Prim.Native.Nat.{ℕ, ◌+◌, ◌≤◌}
 use native.Mathlib.Omega.{arith}
+use lib.ListN.{replicate, length-replicate}
 use Rattle.judging.specs.Answer.{judge_says}
 use Rattle.followup.proofs.StepBytes.{judges, steps_few}
 use Rattle.followup.proofs.judge_numbers.Goals as goal
@@ -8,7 +9,7 @@ use Rattle.followup.proofs.judge_numbers.Goals.{After-judge_reply-said}
 
 -- the steps that are counted
 few : (c : After-judge_reply-said) → c.judge_reply-said.result.trail + c.judge_reply-said.result.loop_steps ≤ 4096
-few c = steps_few _ _ _ (judge_says c.judge.result) c.judge_reply-said.result c.judge.ensures c.judge_reply-said.ensures
+few c = steps_few c.args.numbers.now (replicate 20480 0) c.judge.new.steps (judge_says c.judge.result) c.judge_reply-said.result c.judge.ensures c.judge_reply-said.ensures
 
 pub overflow_mul-said : goal.overflow_mul-said
 overflow_mul-said c = omega (arith, few (goal.at.overflow_mul-said c).After-judge_reply-said)
@@ -21,9 +22,9 @@ overflow_add-said c = omega (arith, few (goal.at.overflow_add-said c).After-judg
 
 pub encode_u16-requires : goal.encode_u16-requires
 encode_u16-requires c =
-    (omega (arith, few (goal.at.encode_u16-requires c).After-judge_reply-said, c.judge.auto.steps, c.room_for_steps-written.ensures), omega (arith, few (goal.at.encode_u16-requires c).After-judge_reply-said, c.requires))
+    (omega (arith, few (goal.at.encode_u16-requires c).After-judge_reply-said, c.judge.auto.steps, length-replicate {A = ℕ} 20480 0), omega (arith, few (goal.at.encode_u16-requires c).After-judge_reply-said, c.requires))
 
 pub returns : goal.returns
 returns c =
-    judges c.args.numbers.now c.args.steps.now (λ i. omega (arith, c.slice_known-1.given i)) c.requires _ _ (judge_says c.judge.result) c.judge_reply-said.result
-    (omega (arith, c.room_for_steps-written.ensures)) c.judge.ensures c.judge_reply-said.ensures c.encode_u16.ensures
+    judges c.args.numbers.now c.args.steps.now (λ i. omega (arith, c.slice_known-1.given i)) c.requires (replicate 20480 0) _ (judge_says c.judge.result) c.judge_reply-said.result
+    (omega arith) c.judge.ensures c.judge_reply-said.ensures c.encode_u16.ensures

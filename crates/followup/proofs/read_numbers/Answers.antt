@@ -5,4 +5,4 @@ use Rattle.followup.proofs.read_numbers.Goals as goal
 pub returns : goal.returns
 returns c =
     let read = c.read in
-    reads_numbers read.result c.read_reply.result read.ensures c.read_reply.ensures
+    reads_numbers read.result c.count_reply.result read.ensures c.count_reply.ensures.read

@@ -1,17 +1,11 @@
 -- What is said of lines before their rules are carried out. Assumes nothing.
-use Rattle.std.specs.Prelude.{◌≡◌, List, ℕ, ◌/◌, ◌≤◌, min, length, take}
+use Rattle.std.specs.Prelude.{List, ℕ, ⊤, Result, Ok, Err, ◌≤◌, length}
 use Rattle.carrying.specs.Contract.{record_room, Refuses}
+use Rattle.running.specs.declared.CarryRefusal.{CarryRefusal}
+use Rattle.running.specs.Answer.{carry_refusal_number, carry_refusal_line}
 use Rattle.running.specs.Inner.Carry.{Settled}
-use Rattle.followup.specs.Bytes.{numbers_of}
-use Rattle.followup.specs.declared.CarryReply.{CarryReply}
 
--- The numbers of the lines that are looked at: one more than a sheet can have.
-abbrev pub first_numbers : List ℕ → List ℕ
-first_numbers lines = take 18952 (numbers_of 4 lines)
-
--- They are decoded. Refusal 0 says that they settle; any other is the refusal for whatever room is lent, if it is enough.
-pub record FirstSays (lines : List ℕ) (r : CarryReply) (numbers : List ℕ) : Type 0 where
-  pub decoded : take (min (length lines / 4) 18952) numbers ≡ first_numbers lines
-  pub settles : r.refusal ≡ 0 → (before : List ℕ) → record_room ≤ length before → Settled (first_numbers lines) before
-  pub refuses : (r.refusal ≡ 0 → ⊥) → (before : List ℕ) → record_room ≤ length before → Refuses (first_numbers lines) before r.refusal r.line
-  pub none : (r.refusal ≡ 0 → ⊥) → (r.records ≡ 0) × (r.firings ≡ 0)
+-- They settle; or that is the refusal for whatever room is lent, if it is enough.
+abbrev pub FirstSays : List ℕ → Result ⊤ CarryRefusal → Type 0
+FirstSays numbers (Ok _) = (before : List ℕ) → record_room ≤ length before → Settled numbers before
+FirstSays numbers (Err r) = (before : List ℕ) → record_room ≤ length before → Refuses numbers before (carry_refusal_number r) (carry_refusal_line r)

@@ -9,5 +9,5 @@ pub returns : goal.returns
 returns c =
     let a = c.args in
     figures_are (lines_in a.lines.now) a.deepest c.count_values-first.result c.last_t-t.result c.kind_terms-kinds.ensures
-    c.rule_terms-rules.ensures c.count_values-first.ensures.0 c.last_t-t.ensures _ _ _ c.figure_of-values.ensures
-    (c.figure_of-records.ensures ∙ ap figure c.polynomial.ensures) (c.figure_of-pairs.ensures ∙ ap figure c.polynomial-2.ensures)
+    c.rule_terms-rules.ensures c.count_values-first.ensures.0 c.last_t-t.ensures _ _ _ c.figure_of.ensures
+    (c.figure_of-2.ensures ∙ ap figure c.polynomial.ensures) (c.figure_of-3.ensures ∙ ap figure c.polynomial-2.ensures)

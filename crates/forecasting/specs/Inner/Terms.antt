@@ -1,5 +1,5 @@
 -- What is counted of a sheet before its figures are computed: its rules' marks, and the terms of the three sums by their powers. Assumes nothing.
-use Rattle.std.specs.Prelude.{◌≡◌, List, ℕ, zero, suc, ◌+◌, ◌≤◌, length}
+use Rattle.std.specs.Prelude.{◌≡◌, List, ℕ, zero, suc, ◌+◌, ◌≤◌, length, Result, Ok, Err}
 use Rattle.sheet.specs.Line.{Line}
 use Rattle.chase.specs.Rules.{Rule, rules_of}
 use Rattle.chase.specs.Making.{carried_marks}
@@ -14,8 +14,6 @@ use Rattle.judging.specs.Answer.{judge_refusal_number, judge_refusal_line}
 use Rattle.judging.specs.declared.JudgeRefusal.{JudgeRefusal}
 use Rattle.forecasting.specs.Answer.{forecast_refusal_number, forecast_refusal_line}
 use Rattle.forecasting.specs.declared.ForecastRefusal.{ForecastRefusal}
-use Rattle.forecasting.specs.declared.Depth.{Depth}
-use Rattle.forecasting.specs.declared.Depth.TheVariants.{Settles, Refused}
 use Rattle.forecasting.specs.declared.marks.MarkCounts.{MarkCounts}
 use Rattle.forecasting.specs.declared.terms.RuleTerms.{RuleTerms}
 
@@ -51,6 +49,6 @@ abbrev pub SameRefusal : JudgeRefusal → ForecastRefusal → Type 0
 SameRefusal j r = (judge_refusal_number j ≡ 12 → ⊥) → (forecast_refusal_number r ≡ judge_refusal_number j) × (forecast_refusal_line r ≡ judge_refusal_line j)
 
 -- What Judge's answer says: the lines are a sheet that settles, whose forecast is the one with this deepest generation; or why nothing is foretold.
-abbrev pub DepthSays : List ℕ → Depth → Type 0
-DepthSays numbers (Settles deepest) = SheetHeld numbers × ForecastMeets shape_limit numbers (foretold (forecast (lines_in numbers) deepest))
-DepthSays numbers (Refused r) = ForecastMeets shape_limit numbers (refuses (forecast_refusal_number r) (forecast_refusal_line r))
+abbrev pub DepthSays : List ℕ → Result ℕ ForecastRefusal → Type 0
+DepthSays numbers (Ok deepest) = SheetHeld numbers × ForecastMeets shape_limit numbers (foretold (forecast (lines_in numbers) deepest))
+DepthSays numbers (Err r) = ForecastMeets shape_limit numbers (refuses (forecast_refusal_number r) (forecast_refusal_line r))

@@ -1,8 +1,7 @@
 -- Different values, held in places and found by a hash. Assumes nothing.
-use Rattle.std.specs.Prelude.{◌≡◌, List, [], ◌++◌, ℕ, ◌+◌, ◌*◌, ◌/◌, ◌%◌, ◌≤◌, ◌<◌, length, get_or}
+use Rattle.std.specs.Prelude.{◌≡◌, List, [], ℕ, ◌*◌, ◌/◌, ◌%◌, ◌≤◌, ◌<◌, length, get_or}
 use Rattle.std.proofs.Math.Decide.{ℕ_discrete}
 use Rattle.patterns.specs.Pattern.{add_all}
-use Rattle.chase.specs.Lists.{In}
 use Rattle.rules.specs.Table.{lines_in}
 use Rattle.carrying.specs.Carrying.{numbers_in, zeros as zeros_in, table_rows}
 use Rattle.chains.specs.Inner.Chains.{Chains}
@@ -24,18 +23,6 @@ pub record Stored (by : ℕ) (values heads next : List ℕ) (count : ℕ) : Type
   pub room : length values ≡ 6144
   pub mixing : by < 2147483648
   pub chain : Chains 4096 6144 (bucket_at by values) heads next count
-
--- They are the different ones of these numbers.
-pub record AreOf (values : List ℕ) (count : ℕ) (numbers : List ℕ) : Type 0 where
-  pub counted : count ≡ length (add_all ℕ_discrete numbers [])
-  pub among : (i : ℕ) → i < count → In (get_or values i 0) numbers
-  pub held : (x : ℕ) → In x numbers → (i : ℕ) × (i < count) × IsAt values x i
-
--- These numbers are added to so many values, whatever those are of.
-pub record Added (by : ℕ) (values : List ℕ) (count : ℕ) (numbers values' heads' next' : List ℕ) (r : ℕ) : Type 0 where
-  pub stored : Stored by values' heads' next' r
-  pub few : r ≤ count + length numbers
-  pub are : (before : List ℕ) → AreOf values count before → AreOf values' r (before ++ numbers)
 
 -- So many different numbers the rows of lent lines have, 0 among them, and so many zeros.
 pub record ValuesAre (lines : List ℕ) (count zeros : ℕ) : Type 0 where

@@ -1,5 +1,5 @@
 -- The rules of a kind in turn, and which rule of a table fires next. Assumes nothing.
-use Rattle.std.specs.Prelude.{◌≡◌, true, false, List, ℕ, ◌+◌, ◌-◌, ◌≤◌, ◌<◌, length, get_or}
+use Rattle.std.specs.Prelude.{◌≡◌, true, false, List, ℕ, ◌+◌, ◌-◌, ◌≤◌, ◌<◌, length, get_or, Option, Some, None, IfSome}
 use Rattle.rules.specs.Table.{row_bytes, rule_in}
 use Rattle.judging.specs.Inner.Codes.{FiresOn}
 
@@ -31,3 +31,13 @@ pub record NextFire (table : List ℕ) (rules r kind : ℕ) (digits : List ℕ) 
   pub within : q ≤ rules
   pub still : (i : ℕ) → r ≤ i → i < q → FiresOn (rule_in (row_bytes table i)) kind digits false
   pub fires : q < rules → FiresOn (rule_in (row_bytes table q)) kind digits true
+
+-- A rule that is named, or the end of the rules where none is.
+abbrev pub or_end : ℕ → Option ℕ → ℕ
+or_end rules (Some q) = q
+or_end rules None = rules
+
+-- The same, where none is named if none fires.
+pub record NextFires (table : List ℕ) (rules r kind : ℕ) (digits : List ℕ) (next : Option ℕ) : Type 0 where
+  pub fire : NextFire table rules r kind digits (or_end rules next)
+  pub low : IfSome next (λ q. q < rules)

@@ -1,5 +1,5 @@
 -- What the search for shapes leaves. Assumes nothing.
-use Rattle.std.specs.Prelude.{◌≡◌, Bool, true, false, cond, List, [], ◌∷◌, ℕ, zero, suc, ◌≤◌, ◌<◌, eqb, length, get_or}
+use Rattle.std.specs.Prelude.{◌≡◌, Bool, true, false, cond, List, [], ◌∷◌, ℕ, zero, suc, ◌≤◌, ◌<◌, length, get_or, Option, Some, None}
 use Rattle.std.proofs.Math.Option.{some}
 use Rattle.chase.specs.Lists.{In}
 use Rattle.chase.specs.Rules.{Head, Rule, nth}
@@ -51,19 +51,24 @@ pub record Whole (rules : List Rule) (rows : List Record) (codes : List ℕ) (n 
   pub rules-in : (k m : ℕ) (r : Rule) (h : Head) → k < n → nth rules m ≡ some r → Applies r (shape_no codes k) → In h r.heads
       → Has codes n (shape_from r (shape_no codes k) h)
 
--- 1 for each rule that fires on one of the first n shapes: rule i, from 0.
-pub record FiredRules (rules : List Rule) (codes fired : List ℕ) (n : ℕ) : Type 0 where
+-- True for each rule that fires on one of the first n shapes: rule i, from 0.
+pub record FiredRules (rules : List Rule) (codes : List ℕ) (fired : List Bool) (n : ℕ) : Type 0 where
   pub size : length fired ≡ 256
-  pub sound : (i : ℕ) → (get_or fired i 0 ≡ 0 → ⊥) → (get_or fired i 0 ≡ 1) × ((r : Rule) × (nth rules (suc i) ≡ some r) × ((k : ℕ) × (k < n) × Applies r (shape_no codes k)))
-  pub complete : (i k : ℕ) (r : Rule) → nth rules (suc i) ≡ some r → k < n → Applies r (shape_no codes k) → get_or fired i 0 ≡ 1
+  pub sound : (i : ℕ) → get_or fired i false ≡ true → (r : Rule) × (nth rules (suc i) ≡ some r) × ((k : ℕ) × (k < n) × Applies r (shape_no codes k))
+  pub complete : (i k : ℕ) (r : Rule) → nth rules (suc i) ≡ some r → k < n → Applies r (shape_no codes k) → get_or fired i false ≡ true
 
--- What the search answers.
-pub record Searched (rules : List Rule) (rows : List Record) (codes index : List ℕ) (ways : List (List ℕ)) (fired : List ℕ) (n : ℕ) (full : Bool) : Type 0 where
-  pub all : full ≡ false → Kept rules rows codes index ways n × Whole rules rows codes n × FiredRules rules codes fired n
-  pub more : full ≡ true → MoreThan (Derived rules rows) 512
+-- No rule has fired yet.
+pub record NoneFired (fired : List Bool) : Type 0 where
+  pub size : length fired ≡ 256
+  pub none : (i : ℕ) → get_or fired i false ≡ false
 
--- How many of the first n numbers are 1.
-abbrev pub ones_in : ℕ → List ℕ → ℕ
-ones_in zero numbers = 0
-ones_in (suc n) [] = 0
-ones_in (suc n) (m ∷ ms) = cond (eqb m 1) (suc (ones_in n ms)) (ones_in n ms)
+-- What the search answers: how many shapes there are, which it found all, or that there are more than 512.
+abbrev pub Searched : List Rule → List Record → List ℕ → List ℕ → List (List ℕ) → List Bool → Option ℕ → Type 0
+Searched rules rows codes index ways fired (Some n) = Kept rules rows codes index ways n × Whole rules rows codes n × FiredRules rules codes fired n
+Searched rules rows codes index ways fired None = MoreThan (Derived rules rows) 512
+
+-- How many of the first n rules have fired.
+abbrev pub fired_in : ℕ → List Bool → ℕ
+fired_in zero fired = 0
+fired_in (suc n) [] = 0
+fired_in (suc n) (m ∷ ms) = cond m (suc (fired_in n ms)) (fired_in n ms)

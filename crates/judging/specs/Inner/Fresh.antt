@@ -1,5 +1,5 @@
 -- Which shapes wait at first: those from which a fresh link may lead. Assumes nothing.
-use Rattle.std.specs.Prelude.{◌≡◌, List, ℕ, ◌+◌, ◌*◌, ◌/◌, ◌<◌, length, get_or}
+use Rattle.std.specs.Prelude.{◌≡◌, Bool, true, false, List, ℕ, ◌+◌, ◌*◌, ◌/◌, ◌<◌, length, get_or}
 use Rattle.rules.specs.Table.{row_bytes}
 use Rattle.judging.specs.Inner.Firing.{kind_byte}
 use Rattle.judging.specs.Inner.Passes.{place_of}
@@ -16,12 +16,12 @@ pub record RuleFresh (bytes : List ℕ) : Type 0 where
   pub below : h < get_or bytes 28 0
   pub head : HeadFresh bytes h
 
--- 1 stands at each kind that has a rule with a fresh mark.
-pub record FreshKinds (table : List ℕ) (rules : ℕ) (kinds : List ℕ) : Type 0 where
+-- Each kind that has a rule with a fresh mark is marked.
+pub record FreshKinds (table : List ℕ) (rules : ℕ) (kinds : List Bool) : Type 0 where
   pub size : length kinds ≡ 65
-  pub each : (r : ℕ) → r < rules → RuleFresh (row_bytes table r) → get_or kinds (kind_byte table r) 0 ≡ 1
+  pub each : (r : ℕ) → r < rules → RuleFresh (row_bytes table r) → get_or kinds (kind_byte table r) false ≡ true
 
--- Of the first `count` shapes those wait, with a 1, whose kind has such a rule.
-pub record FirstWaiting (table : List ℕ) (rules : ℕ) (codes : List ℕ) (count : ℕ) (waiting : List ℕ) : Type 0 where
+-- Of the first `count` shapes those wait whose kind has such a rule.
+pub record FirstWaiting (table : List ℕ) (rules : ℕ) (codes : List ℕ) (count : ℕ) (waiting : List Bool) : Type 0 where
   pub size : length waiting ≡ 512
-  pub each : (s r : ℕ) → s < count → r < rules → RuleFresh (row_bytes table r) → kind_byte table r ≡ get_or codes s 0 / 278 + 1 → get_or waiting s 0 ≡ 1
+  pub each : (s r : ℕ) → s < count → r < rules → RuleFresh (row_bytes table r) → kind_byte table r ≡ get_or codes s 0 / 278 + 1 → get_or waiting s false ≡ true

@@ -2,6 +2,7 @@
 use Rattle.std.specs.Prelude.{List, ℕ}
 use Rattle.rules.specs.Table.{table_rules, TableFits}
 use Rattle.judging.specs.Inner.Firing.{ByKind}
+use Rattle.judging.specs.declared.spread.Basis.{Basis}
 use Rattle.judging.specs.Inner.Links.{Closed}
 use Rattle.judging.specs.Inner.Noted.{Noted}
 
@@ -11,3 +12,6 @@ pub record Ground (table : List ℕ) (rules : ℕ) (kinds codes index : List ℕ
   pub by_kind : ByKind table rules kinds
   pub closed : Closed (table_rules table rules) codes index count
   pub noted : Noted table rules codes index notes starts count
+
+abbrev pub GroundOf : Basis → Type 0
+GroundOf b = Ground b.table.now b.rules b.kinds.now b.shapes.now b.index.now b.notes.now b.starts.now b.count

@@ -1,18 +1,18 @@
 -- What the functions that judge a sheet promise each other. Assumes nothing.
-use Rattle.std.specs.Prelude.{◌≡◌, List, ℕ, ◌*◌, ◌<◌}
+use Rattle.std.specs.Prelude.{Bool, ◌≡◌, List, ℕ, ◌*◌, ◌<◌}
 use Rattle.chase.specs.Counting.{share}
 use Rattle.rules.specs.Table.{SheetHeld, rules_in, rows_in, table_rules, TableFits}
-use Rattle.judging.specs.Inner.Found.{Kept, Whole, FiredRules, ones_in}
+use Rattle.judging.specs.Inner.Found.{Kept, Whole, FiredRules, fired_in}
 use Rattle.judging.specs.Inner.Nodes.{at, link_of}
 use Rattle.judging.specs.Inner.Written.{Deepest, InLine}
 use Rattle.judging.specs.Inner.Trails.{WroteEndless, WroteSettled}
-use Rattle.judging.specs.declared.search.Found.{Found}
+use Rattle.judging.specs.declared.answer.Counts.{Counts}
 use Rattle.judging.specs.declared.Figures.{Figures}
-use Rattle.judging.specs.declared.JudgeAnswer.{JudgeAnswer}
-use Rattle.judging.specs.declared.JudgeAnswer.TheVariants.{Settles, Endless}
+use Rattle.judging.specs.declared.Verdict.{Verdict}
+use Rattle.judging.specs.declared.Verdict.TheVariants.{Settles, Endless}
 
 -- What is known of a sheet once its shapes are found; its rules stand in the table.
-pub record Known (numbers table : List ℕ) (rules : ℕ) (codes index : List ℕ) (ways : List (List ℕ)) (fired : List ℕ) (count : ℕ) : Type 0 where
+pub record Known (numbers table : List ℕ) (rules : ℕ) (codes index : List ℕ) (ways : List (List ℕ)) (fired : List Bool) (count : ℕ) : Type 0 where
   pub sheet : SheetHeld numbers
   pub table_fits : TableFits table rules
   pub rules_are : table_rules table rules ≡ rules_in numbers
@@ -20,24 +20,22 @@ pub record Known (numbers table : List ℕ) (rules : ℕ) (codes index : List �
   pub whole : Whole (rules_in numbers) (rows_in numbers) codes count
   pub fired_rules : FiredRules (rules_in numbers) codes fired count
 
--- Figures that are counts alone.
-pub record CountsOnly (f : Figures) : Type 0 where
-  pub deepest : f.deepest ≡ 0
-  pub row : f.row ≡ 0
-  pub trail : f.trail ≡ 0
-  pub turns : f.turns ≡ 0
-
 -- The counts of what the search found: shapes, fired rules and their share.
-pub record Counted (found : Found) (rules : ℕ) (f : Figures) : Type 0 where
-  pub shapes_are : f.shapes ≡ found.count
-  pub fired_is : f.fired ≡ ones_in rules found.fired
+pub record Counted (fired : List Bool) (shapes rules : ℕ) (f : Counts) : Type 0 where
+  pub shapes_are : f.shapes ≡ shapes
+  pub fired_is : f.fired ≡ fired_in rules fired
   pub share_is : f.share ≡ share f.fired rules
 
--- The answer where something turns, with the loop back to node y written.
-pub record SaysEndless (ways raises : List (List ℕ)) (count y : ℕ) (counts : Figures) (before : List ℕ) (answer : JudgeAnswer) (after : List ℕ)
+-- The figures of counts, a deepest generation, row, trail and loop.
+abbrev pub FiguresOf : Counts → ℕ → ℕ → ℕ → ℕ → Figures → Type 0
+FiguresOf counts deepest row trail turns f =
+    f ≡ record { deepest = deepest; shapes = counts.shapes; fired = counts.fired; share = counts.share; row = row; trail = trail; turns = turns }
+
+-- The verdict where something turns, with the loop back to node y written.
+pub record SaysEndless (ways raises : List (List ℕ)) (count y : ℕ) (counts : Counts) (before : List ℕ) (verdict : Verdict) (after : List ℕ)
     : Type 0 where
   pub figures : Figures
-  pub says : answer ≡ Endless figures
+  pub says : verdict ≡ Endless figures
   pub deepest : figures.deepest ≡ 0
   pub shapes : figures.shapes ≡ counts.shapes
   pub fired_is : figures.fired ≡ counts.fired
@@ -49,11 +47,11 @@ pub record Lines (generations : List (List ℕ)) (from : ℕ → ℕ) (count : �
   pub below : (x : ℕ) → 0 < at generations x → x < 7 * count
   pub lines : (x : ℕ) → 0 < at generations x → InLine generations from (7 * count) x
 
--- The answer where nothing turns: nothing is written where no node was raised, and otherwise a line to a node where a number of the deepest generation is made.
-pub record SaysSettled (ways generations raises : List (List ℕ)) (count : ℕ) (counts : Figures) (before : List ℕ) (answer : JudgeAnswer) (after : List ℕ)
+-- The verdict where nothing turns: nothing is written where no node was raised, and otherwise a line to a node where a number of the deepest generation is made.
+pub record SaysSettled (ways generations raises : List (List ℕ)) (count : ℕ) (counts : Counts) (before : List ℕ) (verdict : Verdict) (after : List ℕ)
     : Type 0 where
   pub figures : Figures
-  pub says : answer ≡ Settles figures
+  pub says : verdict ≡ Settles figures
   pub node : ℕ
   pub deep : Deepest generations (link_of raises) (7 * count) node
   pub deepest : figures.deepest ≡ at generations node

@@ -1,5 +1,5 @@
 -- The links between fields of found shapes, and what raising the generations along them leaves. Assumes nothing.
-use Rattle.std.specs.Prelude.{◌≡◌, Bool, true, false, List, ℕ, suc, ◌+◌, ◌*◌, ◌≤◌, ◌<◌, length, get_or}
+use Rattle.std.specs.Prelude.{◌≡◌, Option, None, Some, List, ℕ, suc, ◌+◌, ◌*◌, ◌≤◌, ◌<◌, length, get_or}
 use Rattle.std.proofs.Math.Option.{some}
 use Rattle.chase.specs.Lists.{In}
 use Rattle.chase.specs.Rules.{Head, Rule, nth}
@@ -7,8 +7,6 @@ use Rattle.chase.specs.Simplification.{Applies}
 use Rattle.rules.specs.Table.{first_place, source_at}
 use Rattle.judging.specs.Inner.Codes.{code_of, ShapeFits, shape_from}
 use Rattle.judging.specs.Inner.Found.{shape_no}
-use Rattle.judging.specs.declared.spread.Turning.{Turning}
-use Rattle.judging.specs.declared.spread.Turning.TheVariants.{Nowhere, At}
 use Rattle.judging.specs.Inner.Nodes.{at, Grid, Stable, Turn, Line}
 
 -- Where a link begins: a carried one at the first place of the mark, a fresh one at a place that fresh numbers come from.
@@ -53,13 +51,9 @@ pub record Closed (rules : List Rule) (codes index : List ℕ) (count : ℕ) : T
       → code ≡ code_of (shape_from r (shape_no codes k) h) → get_or index code 0 ≡ 0 → ⊥
 
 -- A node of a loop as a number: 0 where there is none, and otherwise one more than the node.
-abbrev pub turning_number : Turning → ℕ
-turning_number Nowhere = 0
-turning_number (At y) = suc y
-
-abbrev pub has_turn : Turning → Bool
-has_turn Nowhere = false
-has_turn (At y) = true
+abbrev pub turning_number : Option ℕ → ℕ
+turning_number None = 0
+turning_number (Some y) = suc y
 
 -- What raising the generations leaves. turning is 0 where all is settled, and otherwise one more than a node of a loop.
 pub record Spreads (rules : List Rule) (codes : List ℕ) (count : ℕ) (generations : List (List ℕ)) (from link : ℕ → ℕ) (turning : ℕ) : Type 0 where

@@ -1,12 +1,12 @@
 -- The order of the sweeps. Assumes nothing.
-use Rattle.std.specs.Prelude.{◌≡◌, List, ℕ, ◌≤◌, ◌<◌, length, get_or}
+use Rattle.std.specs.Prelude.{◌≡◌, Bool, false, List, ℕ, ◌≤◌, ◌<◌, length, get_or}
 use Rattle.judging.specs.Inner.Noted.{target_at}
 
--- Note k leads to a shape without a mark; k is the number of places for notes where there is no such note.
-pub record Opens (notes : List (List ℕ)) (marks : List ℕ) (count k : ℕ) : Type 0 where
-  pub within : k ≤ length notes
-  pub place : k < length notes → target_at notes k < count
-  pub bare : k < length notes → get_or marks (target_at notes k) 0 ≡ 0
+-- Note k leads to a shape without a mark.
+pub record Opens (notes : List (List ℕ)) (marks : List Bool) (count k : ℕ) : Type 0 where
+  pub within : k < length notes
+  pub place : target_at notes k < count
+  pub bare : get_or marks (target_at notes k) false ≡ false
 
 -- A number stands in a list from place `first` on and before `end`.
 pub record Stands (list : List ℕ) (first end x : ℕ) : Type 0 where

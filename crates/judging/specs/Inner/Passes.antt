@@ -1,5 +1,5 @@
 -- What following links leaves: the contracts of the inner functions that raise the generations. Assumes nothing.
-use Rattle.std.specs.Prelude.{◌≡◌, Bool, true, false, List, ◌⊎◌, ℕ, zero, suc, ◌+◌, ◌*◌, ◌/◌, ◌≤◌, ◌<◌, length, get_or}
+use Rattle.std.specs.Prelude.{◌≡◌, Bool, true, false, Option, None, Some, List, ◌⊎◌, ℕ, zero, suc, ◌+◌, ◌*◌, ◌/◌, ◌≤◌, ◌<◌, length, get_or}
 use Rattle.std.proofs.Math.Option.{some}
 use Rattle.chase.specs.Rules.{Head, nth}
 use Rattle.chase.specs.Simplification.{Applies}
@@ -8,8 +8,6 @@ use Rattle.judging.specs.Inner.Codes.{shape_at, code_of, shape_from}
 use Rattle.judging.specs.Inner.Nodes.{at, Grid, from_of, link_of, back, weight}
 use Rattle.judging.specs.declared.spread.Raised.{Raised}
 use Rattle.judging.specs.declared.spread.Raised.TheVariants.{Nothing, Node, Over}
-use Rattle.judging.specs.declared.spread.Source.{Source}
-use Rattle.judging.specs.declared.spread.Source.TheVariants.{Place, Nowhere}
 
 -- A raised node was raised from a node that was at least so high, and by a carried link from one that was raised before it.
 pub record Timed (G F K : ℕ → ℕ) : Type 0 where
@@ -46,7 +44,7 @@ node_of (Node v) = v
 node_of (Over v) = v
 
 -- The state where there are n nodes.
-pub record Live (n : ℕ) (g raises : List (List ℕ)) (waiting : List ℕ) (last : Raised) : Type 0 where
+pub record Live (n : ℕ) (g raises : List (List ℕ)) (waiting : List Bool) (last : Raised) : Type 0 where
   pub grid : Grid g
   pub raise_size : length raises ≡ 3584
   pub size : length waiting ≡ 512
@@ -62,8 +60,8 @@ sum_to zero f = 0
 sum_to (suc n) f = sum_to n f + f n
 
 -- A link can raise nothing, or it is to be followed.
-abbrev pub Rests : List (List ℕ) → List ℕ → ℕ → ℕ → ℕ → Type 0
-Rests g waiting u v code = (get_or waiting (u / 7) 0 ≡ 1) ⊎ (at g u + weight code ≤ at g v)
+abbrev pub Rests : List (List ℕ) → List Bool → ℕ → ℕ → ℕ → Type 0
+Rests g waiting u v code = (get_or waiting (u / 7) false ≡ true) ⊎ (at g u + weight code ≤ at g v)
 
 -- A node is as it was.
 pub record Same (g₀ raises₀ g raises : List (List ℕ)) (v : ℕ) : Type 0 where
@@ -72,8 +70,8 @@ pub record Same (g₀ raises₀ g raises : List (List ℕ)) (v : ℕ) : Type 0 w
   pub link_is : link_of raises v ≡ link_of raises₀ v
 
 -- The links of P were followed.
-pub record Done (n : ℕ) (P : ℕ → ℕ → ℕ → Type 0) (g₀ raises₀ : List (List ℕ)) (waiting₀ : List ℕ) (last₀ : Raised)
-    (g raises : List (List ℕ)) (waiting : List ℕ) (last : Raised) : Type 0 where
+pub record Done (n : ℕ) (P : ℕ → ℕ → ℕ → Type 0) (g₀ raises₀ : List (List ℕ)) (waiting₀ : List Bool) (last₀ : Raised)
+    (g raises : List (List ℕ)) (waiting : List Bool) (last : Raised) : Type 0 where
   pub live : Live n g raises waiting last
   pub begun : changes last ≡ 0 → changes last₀ ≡ 0
   pub still : changes last ≡ 0 → waiting ≡ waiting₀
@@ -86,10 +84,10 @@ pub record Done (n : ℕ) (P : ℕ → ℕ → ℕ → Type 0) (g₀ raises₀ :
 
 -- The waiting shapes' links were followed, those of E in all.
 pub record Swept (n : ℕ) (E : ℕ → ℕ → ℕ → Type 0) (s : ℕ) (g₀ raises₀ g raises : List (List ℕ))
-    (waiting : List ℕ) (last : Raised) : Type 0 where
+    (waiting : List Bool) (last : Raised) : Type 0 where
   pub live : Live n g raises waiting last
   pub rests : overs last ≡ 0 → (u v code : ℕ) → E u v code → Rests g waiting u v code
-  pub clear : changes last ≡ 0 → (x : ℕ) → x < s → get_or waiting x 0 ≡ 1 → ⊥
+  pub clear : changes last ≡ 0 → (x : ℕ) → x < s → get_or waiting x false ≡ true → ⊥
   pub grown : sum_to n (at g₀) ≤ sum_to n (at g)
   pub more : 0 < changes last → sum_to n (at g₀) < sum_to n (at g)
   pub edges : (v : ℕ) → Same g₀ raises₀ g raises v ⊎ E (from_of raises v) v (link_of raises v)
@@ -122,11 +120,11 @@ pub record BestPlace (bytes : List ℕ) (g : List (List ℕ)) (s k p : ℕ) : Ty
   pub most : (q : ℕ) → k ≤ q → q < 7 → get_or bytes (21 + q) 0 ≡ 1 → at g (7 * s + q) ≤ at g (7 * s + p)
 
 -- The source from place k on with the largest generation.
-abbrev pub BestFrom : List ℕ → List (List ℕ) → ℕ → ℕ → Source → Type 0
-BestFrom bytes g s k (Place p) = BestPlace bytes g s k p
-BestFrom bytes g s k Nowhere = NoSource bytes k
+abbrev pub BestFrom : List ℕ → List (List ℕ) → ℕ → ℕ → Option ℕ → Type 0
+BestFrom bytes g s k (Some p) = BestPlace bytes g s k p
+BestFrom bytes g s k None = NoSource bytes k
 
-abbrev pub Best : List ℕ → List (List ℕ) → ℕ → Source → Type 0
+abbrev pub Best : List ℕ → List (List ℕ) → ℕ → Option ℕ → Type 0
 Best bytes g s source = BestFrom bytes g s 0 source
 
 -- The first place of the mark in field j of H line h; 0 for a fresh mark.

@@ -1,8 +1,8 @@
 -- What writing a trail and a loop leaves: row, trail and loop as they are counted, and the steps. Assumes nothing.
 use Rattle.std.specs.Prelude.{◌≡◌, List, ◌++◌, ℕ, ◌+◌, ◌*◌, ◌/◌, ◌≤◌, ◌<◌, length}
 use Rattle.judging.specs.Inner.Found.{maker_at}
-use Rattle.judging.specs.Inner.Nodes.{at, back, from_of, link_of}
-use Rattle.judging.specs.Inner.Written.{put_steps, line_to, way_to, way_back, Falls, WayLength, InTurn, TurnLength, InLine, LineLength}
+use Rattle.judging.specs.Inner.Nodes.{back, from_of, link_of}
+use Rattle.judging.specs.Inner.Written.{put_steps, line_to, way_to, way_back, Falls, WayLength, TurnLength, LineLength}
 
 -- What the writers are lent: how each found shape was reached, and room for 4,096 steps.
 pub record Lent (steps : List ℕ) (ways : List (List ℕ)) (count : ℕ) : Type 0 where

@@ -1,5 +1,5 @@
 -- The steps that are written: the way to a found shape, and the line of links to a node. Assumes nothing.
-use Rattle.std.specs.Prelude.{◌≡◌, List, [], ◌∷◌, ◌++◌, ℕ, zero, suc, ◌+◌, ◌-◌, ◌*◌, ◌/◌, ◌%◌, ◌≤◌, ◌<◌, length, get_or}
+use Rattle.std.specs.Prelude.{◌≡◌, List, [], ◌∷◌, ◌++◌, ℕ, zero, suc, ◌+◌, ◌-◌, ◌*◌, ◌/◌, ◌%◌, ◌≤◌, ◌<◌, length}
 use Rattle.std.proofs.Math.Seq.{paste}
 use Rattle.chase.specs.Steps.{Step, step_numbers}
 use Rattle.judging.specs.Inner.Found.{parent_at, maker_at, h_line_at}

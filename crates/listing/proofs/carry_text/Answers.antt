@@ -1,15 +1,17 @@
 -- `listing::carry_text` meets its contract. Assumes nothing.
 use mathlib.Core.Path.{refl}
-use native.Mathlib.Omega.{arith}
-use Rattle.report.proofs.Reports.{filled-front}
+use Rattle.std.proofs.Common.{arith}
+use Rattle.report.proofs.Reports.{filled_by, sheet_read, text_meets}
+use Rattle.listing.specs.Listing.{Prints}
 use Rattle.listing.proofs.carry_text.Goals as goal
 
-pub returns-then-output-lt266260 : goal.returns-then-output-lt266260
-returns-then-output-lt266260 c = (omega (arith, c.if-output-lt266260.true), refl, refl, refl)
-
-pub list-requires : goal.list-requires
-list-requires c = omega (arith, c.if-output-lt266260.false)
+pub print_text-requires : goal.print_text-requires
+print_text-requires c = record {
+  room = omega arith;
+  tells = λ enough lines e given lent gives lends. (rw gives (sheet_read c.args.text.now lines e), rw lends enough);
+}
 
 pub returns : goal.returns
 returns c =
-    (omega (arith, c.if-output-lt266260.false), filled-front _ c.list.result _ c.list.ensures)
+    text_meets _ c.args.text.now c.args.output.now _ (Prints c.args.text.now) (λ number line e. Prints.unread number line e refl) 266260 c.print_text.result c.print_text.ensures
+    (λ size lines enough e t. filled_by _ _ _ (λ p j. Prints.read lines e j) (rw (t.gives, t.lends, t.leaves) at t.met))

@@ -1,29 +1,50 @@
--- `listing::fill_records` meets its contract. The invariant: the first i records are put. Assumes nothing.
+-- `listing::fill_records` meets its contract. The invariant: the records so far are put. Assumes nothing.
+use mathlib.Core.Path.{◌≡◌, sym, subst, ap, ◌∙◌}
+use mathlib.Core.List.{List, []}
+use Prim.Native.Nat.{ℕ, ◌/◌, ◌<◌, ◌≤◌}
 use native.Mathlib.Omega.{arith}
-use borrow.Author.Rules.{rules}
-use Rattle.listing.proofs.RecordLaws.{filling_begun, filling_more, filling_done}
+use lib.ListN.{length, get_or, take}
+use lib.Seq.{length-take-le, get_or-take}
+use Rattle.std.specs.Simd.{first_chunks}
+use Rattle.report.proofs.Filling.{part_at}
+use Rattle.listing.specs.Inner.Records.{record_at, Printable}
+use Rattle.listing.proofs.RecordLaws.{filling_more, filling_done}
 use Rattle.listing.proofs.fill_records.Goals as goal
+use Rattle.listing.proofs.fill_records.Goals.{After-as_chunks, In-loop-record}
 
-pub loop-i-init : goal.loop-i-init
-loop-i-init c = filling_begun _ _ _ _ (omega (arith, c.requires.1))
+-- So many records are whole.
+whole : (c : After-as_chunks) → c.args.count ≤ length c.as_chunks.result.0.now
+whole c =
+    let parts : length c.as_chunks.result.0.now ≡ length c.args.records.now / 8 = c.as_chunks.ensures.front_len in
+    omega (arith, parts, c.requires.0.inside)
+
+here : (c : In-loop-record) → c.args.count ≤ length c.as_chunks.result.0.now → c.loop-record.record-index < c.args.count
+here c h = omega (arith, c.loop-record-test.true, length-take-le c.args.count c.as_chunks.result.0.now h)
+
+item : (c : In-loop-record) → c.loop-record.record-index < c.args.count → get_or (take c.args.count c.as_chunks.result.0.now) c.loop-record.record-index [] ≡ record_at c.args.records.now c.loop-record.record-index
+item c low =
+    let parts : c.as_chunks.result.0.now ≡ first_chunks 8 (length c.args.records.now / 8) c.args.records.now = c.as_chunks.ensures.front in
+    get_or-take c.args.count c.as_chunks.result.0.now c.loop-record.record-index [] low
+    ∙ ap (λ (p : List (List ℕ)). get_or p c.loop-record.record-index []) parts
+    ∙ part_at 8 (length c.args.records.now / 8) c.args.records.now c.loop-record.record-index (omega (arith, low, c.requires.0.inside))
 
 pub fill_record-at-requires : goal.fill_record-at-requires
 fill_record-at-requires c =
-    (c.requires.0.each _ c.loop-i-test.true, omega (arith, c.loop-i.invariant.put_so.short, c.loop-i.invariant.long, c.loop-i-test.true, c.requires.0.few, c.requires.1))
+    let p = goal.at.fill_record-at-requires c in
+    let low = here p.In-loop-record (whole p.After-as_chunks) in
+    let f = c.loop-record.invariant in (
+      subst (Printable c.args.widths.now) (sym (item p.In-loop-record low)) (c.requires.0.each c.loop-record.record-index low),
+      omega (arith, f.put_so.short, f.long, low, c.requires.0.few, c.requires.1),
+    )
 
-pub overflow_add-at : goal.overflow_add-at
-overflow_add-at c =
-    let low = c.loop-i.invariant.put_so.short in
-    let few = c.requires.0.few in
-    let size = c.fill_record-at.ensures.1 in
-    search rules
-
-pub loop-i-preserved : goal.loop-i-preserved
-loop-i-preserved c =
-    filling_more c.loop-i.invariant c.requires.0 c.loop-i-test.true c.requires.1 _ _ (search rules) c.fill_record-at.ensures.0 c.fill_record-at.ensures.1 c.fill_record-at.ensures.2
-
-pub shape_of-text : goal.shape_of-text
-shape_of-text c = c.loop-i.invariant.long
+pub loop-record-preserved : goal.loop-record-preserved
+loop-record-preserved c =
+    let p = goal.at.loop-record-preserved c in
+    let low = here p.In-loop-record (whole p.After-as_chunks) in
+    let put = rw (item p.In-loop-record low) at c.fill_record-at.ensures in
+    filling_more c.loop-record.invariant c.requires.0 low c.requires.1 _ _ c.fill_record-at.auto.text put.0 put.1 put.2
 
 pub returns : goal.returns
-returns c = filling_done c.loop-i.invariant (omega (arith, c.loop-i-test.false))
+returns c =
+    filling_done c.loop-record.invariant
+    (omega (arith, c.loop-record-test.false, length-take-le c.args.count c.as_chunks.result.0.now (whole (goal.at.returns c).After-as_chunks)))

@@ -1,48 +1,47 @@
--- `listing::kind_widths` meets its contract. The invariant: the widths that the first n lines declare. The measure is the number of lines left. Assumes nothing.
-use Prim.Native.Nat.{◌+◌, ◌*◌, ◌≤◌}
-use borrow.Author.Rules.{rules}
+-- `listing::kind_widths` meets its contract. The invariant: the widths that the lines so far declare. Assumes nothing.
+use mathlib.Core.Path.{◌≡◌, ◌∙◌}
+use Prim.Native.Nat.{ℕ, ◌+◌, ◌*◌, ◌/◌, ◌<◌}
+use native.Mathlib.Omega.{arith}
 use lib.ListN.{length, get_or}
-use Rattle.rules.specs.Table.{SheetHeld}
-use Rattle.rules.proofs.RowLaws.{whole_line, kind_low}
-use Rattle.listing.proofs.WidthLaws.{widening_begun, widening_kind, widening_other, widening_done}
+use Rattle.std.proofs.Common.{[], add-zero}
+use Rattle.rules.proofs.SheetLaws.{size_held}
+use Rattle.rules.proofs.RowLaws.{kind_low}
+use Rattle.listing.proofs.WidthLaws.{eight_at, widening_begun, widening_kind, widening_other, widening_done}
 use Rattle.listing.proofs.kind_widths.Goals as goal
-use Rattle.listing.proofs.kind_widths.Goals.{In-loop-n, then-lines-n-eq-LETTER_K, else-lines-n-eq-LETTER_K}
+use Rattle.listing.proofs.kind_widths.Goals.{In-loop-line, then-line-eq-LETTER_K, else-line-eq-LETTER_K}
 
-sheet : (i : In-loop-n) → SheetHeld i.args.lines.now
-sheet i = i.requires
+inside : (i : In-loop-line) → 8 * i.loop-line.line-index < length i.args.lines.now
+inside i = omega (arith, i.loop-line-test.true, i.as_chunks.ensures.front_len)
 
-whole : (i : In-loop-n) → 8 * i.loop-n.n + 8 ≤ length i.args.lines.now
-whole i = whole_line _ _ _ _ (sheet i) i.loop-n.invariant.reading i.loop-n-test.true
+at : (i : In-loop-line) (k : ℕ) → k < 8
+    → get_or (get_or i.as_chunks.result.0.now i.loop-line.line-index []) k 0 ≡ get_or i.args.lines.now (8 * i.loop-line.line-index + k) 0
+at i k h =
+    eight_at i.args.lines.now i.as_chunks.result.0.now i.as_chunks.ensures.front i.loop-line.line-index (omega (arith, i.loop-line-test.true, i.as_chunks.ensures.front_len)) k h
 
-low : (i : In-loop-n) → get_or i.args.lines.now (8 * i.loop-n.n + 1) 0 ≤ 64
-low i = kind_low _ _ _ _ (sheet i) i.loop-n.invariant.reading i.loop-n-test.true
+first : (i : In-loop-line) → get_or (get_or i.as_chunks.result.0.now i.loop-line.line-index []) 0 0 ≡ get_or i.args.lines.now (8 * i.loop-line.line-index) 0
+first i = rw add-zero at (at i 0 (omega arith))
 
-pub loop-n-init : goal.loop-n-init
-loop-n-init c = widening_begun _
+pub loop-line-init : goal.loop-line-init
+loop-line-init c = widening_begun _
 
-pub bounds-lines-n-then-lines-n-eq-LETTER_K : goal.bounds-lines-n-then-lines-n-eq-LETTER_K
-bounds-lines-n-then-lines-n-eq-LETTER_K c = let w = whole (goal.at.bounds-lines-n-then-lines-n-eq-LETTER_K c).In-loop-n in search rules
+pub bounds-widths-line : goal.bounds-widths-line
+bounds-widths-line c =
+    let here = (goal.at.bounds-widths-line c).In-loop-line in
+    omega (arith, at here 1 (omega arith), kind_low _ _ _ _ c.requires c.loop-line.invariant.reading (inside here))
 
-pub overflow_cast-kind : goal.overflow_cast-kind
-overflow_cast-kind c = let k = low (goal.at.overflow_cast-kind c).In-loop-n in search rules
-
-pub bounds-lines-n-then-lines-n-eq-LETTER_K-2 : goal.bounds-lines-n-then-lines-n-eq-LETTER_K-2
-bounds-lines-n-then-lines-n-eq-LETTER_K-2 c = let w = whole (goal.at.bounds-lines-n-then-lines-n-eq-LETTER_K-2 c).In-loop-n in search rules
-
-pub offset_bounds-widths-kind : goal.offset_bounds-widths-kind
-offset_bounds-widths-kind c = let k = low (goal.at.offset_bounds-widths-kind c).In-loop-n in search rules
-
-pub bounds-widths-kind : goal.bounds-widths-kind
-bounds-widths-kind c = let k = low (goal.at.bounds-widths-kind c).In-loop-n in let z = c.loop-n.invariant.reading.widths_fit.size in search rules
-
-pub loop-n-preserved : goal.loop-n-preserved
-loop-n-preserved c =
-    let w = c.loop-n.invariant in
-    let more = c.loop-n-test.true in
-    elim c.if-lines-n-eq-LETTER_K.branch [
-      | then-lines-n-eq-LETTER_K u ↦ rw u.widths-is (widening_kind c.requires w more u.if-lines-n-eq-LETTER_K.true)
-      | else-lines-n-eq-LETTER_K u ↦ rw u.widths-is (widening_other c.requires w more u.if-lines-n-eq-LETTER_K.false)
+pub loop-line-preserved : goal.loop-line-preserved
+loop-line-preserved c =
+    let here = (goal.at.loop-line-preserved c).In-loop-line in
+    let w = c.loop-line.invariant in
+    let more = inside here in
+    elim c.if-line-eq-LETTER_K.branch [
+      | then-line-eq-LETTER_K u ↦
+          rw (u.widths-is, at here 1 (omega arith), at here 2 (omega arith)) (widening_kind c.requires w more (omega (arith, u.if-line-eq-LETTER_K.true, first here)))
+      | else-line-eq-LETTER_K u ↦
+          rw u.widths-is (widening_other c.requires w more (λ e. u.if-line-eq-LETTER_K.false (first here ∙ e)))
     ]
 
 pub returns : goal.returns
-returns c = widening_done c.requires c.loop-n.invariant c.loop-n-test.false
+returns c =
+    let count : length c.as_chunks.result.0.now ≡ length c.args.lines.now / 8 = c.as_chunks.ensures.front_len in
+    widening_done c.requires c.loop-line.invariant (omega (arith, c.loop-line-test.false, count, size_held c.requires))

@@ -9,32 +9,37 @@ pub record WidthsOf (lines : List Line) (widths : List ℕ) : Type 0 where
   pub size : length widths ≡ 65
   pub each : (l : Line) → In l lines → (l.letter ≡ K → ⊥) → get_or widths l.kind 0 ≡ length l.numbers
 
--- The width of record i, by its kind.
-abbrev pub width_at : List ℕ → List ℕ → ℕ → ℕ
-width_at widths records i = get_or widths (get_or records (8 * i + 1) 0) 0
+-- The width of a record, by its kind.
+abbrev pub width_of : List ℕ → List ℕ → ℕ
+width_of widths numbers = get_or widths (get_or numbers 1 0) 0
 
--- Record i as an R line.
-abbrev pub record_at : List ℕ → List ℕ → ℕ → Line
-record_at widths records i =
-    record { letter = R; kind = get_or records (8 * i + 1) 0; numbers = take (width_at widths records i) (drop (8 * i + 2) records) }
+-- A record as an R line.
+abbrev pub line_of : List ℕ → List ℕ → Line
+line_of widths numbers =
+    record { letter = R; kind = get_or numbers 1 0; numbers = take (width_of widths numbers) (drop 2 numbers) }
+
+-- Record i of those that are lent.
+abbrev pub record_at : List ℕ → ℕ → List ℕ
+record_at records i = take 8 (drop (8 * i) records)
 
 -- The first so many.
 abbrev pub records_to : List ℕ → List ℕ → ℕ → List Line
 records_to widths records zero = []
-records_to widths records (suc n) = records_to widths records n ++ (record_at widths records n ∷ [])
+records_to widths records (suc n) = records_to widths records n ++ (line_of widths (record_at records n) ∷ [])
 
--- Record i is one of 4,096, of a kind up to 64 and up to six numbers, each with a column.
-pub record Printable (widths records : List ℕ) (i : ℕ) : Type 0 where
+-- A record is of a kind up to 64 and up to six numbers, each with a column.
+pub record Printable (widths numbers : List ℕ) : Type 0 where
   pub size : length widths ≡ 65
-  pub low : i < 4096
-  pub inside : 8 * i + 8 ≤ length records
-  pub kind : get_or records (8 * i + 1) 0 ≤ 64
-  pub narrow : width_at widths records i ≤ 6
-  pub range : in_range ((record_at widths records i).kind ∷ (record_at widths records i).numbers) ≡ true
+  pub long : length numbers ≡ 8
+  pub kind : get_or numbers 1 0 ≤ 64
+  pub narrow : width_of widths numbers ≤ 6
+  pub range : in_range ((line_of widths numbers).kind ∷ (line_of widths numbers).numbers) ≡ true
 
+-- So are the first so many, up to 4,096.
 pub record AllPrintable (widths records : List ℕ) (count : ℕ) : Type 0 where
   pub few : count ≤ 4096
-  pub each : (i : ℕ) → i < count → Printable widths records i
+  pub inside : 8 * count ≤ length records
+  pub each : (i : ℕ) → i < count → Printable widths (record_at records i)
 
 -- The R lines of the first so many records stand after the C line, which has 20 bytes, and end at a place.
 pub record RecordsPut (widths records : List ℕ) (count : ℕ) (before after : List ℕ) (end : ℕ) : Type 0 where

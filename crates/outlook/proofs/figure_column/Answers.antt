@@ -1,14 +1,14 @@
 -- `outlook::figure_column` meets its contract. Assumes nothing.
 use mathlib.Core.Path.{sym, ap, ◌∙◌}
 use Rattle.forecasting.specs.Answer.{figure_of}
-use Rattle.forecasting.specs.declared.Figure.{Figure}
+use Rattle.std.proofs.Common.{ℕ, Option}
 use Rattle.outlook.specs.Outlook.{figure_column}
 use Rattle.outlook.proofs.figure_column.Goals as goal
 
-pub returns-in-Number : goal.returns-in-Number
+pub returns-in-Some : goal.returns-in-Some
 unfolding figure_column
-returns-in-Number c = c.wide_column.ensures ∙ ap (λ (f : Figure). figure_column (figure_of f)) (sym c.in-Number.is)
+returns-in-Some c = c.wide_column.ensures ∙ ap (λ (f : Option ℕ). figure_column (figure_of f)) (sym c.in-Some.is)
 
-pub returns-in-Beyond : goal.returns-in-Beyond
+pub returns-in-None : goal.returns-in-None
 unfolding figure_column
-returns-in-Beyond c = ap (λ (f : Figure). figure_column (figure_of f)) (sym c.in-Beyond.is)
+returns-in-None c = ap (λ (f : Option ℕ). figure_column (figure_of f)) (sym c.in-None.is)

@@ -1,15 +1,17 @@
 -- `outlook::forecast_text` meets its contract. Assumes nothing.
 use mathlib.Core.Path.{refl}
-use native.Mathlib.Omega.{arith}
-use Rattle.report.proofs.Reports.{filled-front}
+use Rattle.std.proofs.Common.{arith}
+use Rattle.report.proofs.Reports.{filled_by, sheet_read, text_meets}
+use Rattle.outlook.specs.Outlook.{Prints}
 use Rattle.outlook.proofs.forecast_text.Goals as goal
 
-pub returns-then-output-lt38 : goal.returns-then-output-lt38
-returns-then-output-lt38 c = (omega (arith, c.if-output-lt38.true), refl, refl, refl)
-
-pub outlook-requires : goal.outlook-requires
-outlook-requires c = omega (arith, c.if-output-lt38.false)
+pub print_text-requires : goal.print_text-requires
+print_text-requires c = record {
+  room = omega arith;
+  tells = λ enough lines e given lent gives lends. (rw gives (sheet_read c.args.text.now lines e), rw lends enough);
+}
 
 pub returns : goal.returns
 returns c =
-    (omega (arith, c.if-output-lt38.false), filled-front _ c.outlook.result _ c.outlook.ensures)
+    text_meets _ c.args.text.now c.args.output.now _ (Prints c.args.text.now) (λ number line e. Prints.unread number line e refl) 38 c.print_text.result c.print_text.ensures
+    (λ size lines enough e t. filled_by _ _ _ (λ p j. Prints.read lines e j) (rw (t.gives, t.lends, t.leaves) at t.met))

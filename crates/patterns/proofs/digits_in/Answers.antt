@@ -3,12 +3,12 @@ use mathlib.Core.Path.{◌∙◌}
 use mathlib.Core.Logic.{inl, inr}
 use Rattle.patterns.proofs.PatternRows.{row_there, row-none}
 use Rattle.patterns.proofs.digits_in.Goals as goal
+use Rattle.patterns.proofs.digits_in.Goals.{then-number-eq0-via-then-number-eq0, then-number-eq0-via-else-number-eq0+then-table-number}
 
 pub returns-then-number-eq0 : goal.returns-then-number-eq0
-returns-then-number-eq0 c = row-none _ _ (inl c.if-number-eq0.true)
-
-pub returns-then-table-number : goal.returns-then-table-number
-returns-then-table-number c = row-none _ _ (inr c.if-table-number.true)
+returns-then-number-eq0 c =
+    row-none _ _
+    (elim c.then-number-eq0.branch [ then-number-eq0-via-then-number-eq0 w ↦ inl w.if-number-eq0.true | then-number-eq0-via-else-number-eq0+then-table-number w ↦ inr w.if-table-number.true ])
 
 pub returns : goal.returns
 returns c =

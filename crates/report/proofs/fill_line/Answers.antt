@@ -34,9 +34,9 @@ in-range l = in_range_at l.args.numbers.now l.loop-c.c l.requires.0
 pub loop-c-init : goal.loop-c-init
 loop-c-init c = (omega arith, paste-zero _ (c.args.at + 1) [])
 
-pub overflow_cast-numbers : goal.overflow_cast-numbers
-overflow_cast-numbers c =
-    let h = in-range (goal.at.overflow_cast-numbers c).At-loop-c (search rules) in
+pub overflow_cast-number : goal.overflow_cast-number
+overflow_cast-number c =
+    let h = in-range (goal.at.overflow_cast-number c).At-loop-c (search rules) in
     search rules
 
 pub loop-c-preserved : goal.loop-c-preserved

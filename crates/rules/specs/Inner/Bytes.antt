@@ -1,14 +1,14 @@
 -- What the functions that test the lines and fill the table of rules promise each other. Assumes nothing.
-use Rattle.std.specs.Prelude.{◌≡◌, cond, List, [], ◌∷◌, ℕ, zero, suc, ◌+◌, ◌-◌, ◌*◌, ◌≤◌, ◌<◌, eqb, ltb, length, get_or, drop}
+use Rattle.std.specs.Prelude.{◌≡◌, Option, Some, None, cond, List, [], ◌∷◌, ℕ, zero, suc, ◌+◌, ◌-◌, ◌*◌, ◌≤◌, ◌<◌, eqb, ltb, length, get_or, drop}
 use Rattle.patterns.specs.Outcome.{refused}
 use Rattle.sheet.specs.Write.{sheet_held}
 use Rattle.chase.specs.Rules.{Head, Rule, marks_of, heads_of}
 use Rattle.rules.specs.Table.{SheetHeld, first_place, source_at, lines_in}
 
--- The first wrong line of lent numbers; 0 where they are a sheet.
-pub record FirstWrong (numbers : List ℕ) (line : ℕ) : Type 0 where
-  pub none : line ≡ 0 → SheetHeld numbers
-  pub wrong : (line ≡ 0 → ⊥) → sheet_held numbers ≡ refused 8 line
+-- The first wrong line of lent numbers; None where they are a sheet.
+abbrev pub FirstWrong : List ℕ → Option ℕ → Type 0
+FirstWrong numbers None = SheetHeld numbers
+FirstWrong numbers (Some line) = sheet_held numbers ≡ refused 8 line
 
 -- ---- lent numbers read as a rule
 

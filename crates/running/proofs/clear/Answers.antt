@@ -1,20 +1,17 @@
--- `clear` meets its contract: place by place. Assumes nothing.
-use mathlib.Core.Path.{◌≡◌, refl, subst}
-use Prim.Native.Nat.{ℕ}
+-- `clear` meets its contract: the places that are filled are 0. Assumes nothing.
+use mathlib.Core.Path.{◌≡◌, ap, ◌∙◌}
+use mathlib.Core.List.{List}
+use Prim.Native.Nat.{ℕ, ◌+◌, ◌-◌}
 use native.Mathlib.Omega.{arith}
-use Rattle.rules.specs.Inner.Bytes.{Part}
-use Rattle.rules.proofs.PartLaws.{part_none, part_more}
+use lib.ListN.{length, get_or, take, drop, length-take, length-drop}
+use Rattle.std.proofs.lemmas.List.{get_or-replicate}
+use Rattle.running.proofs.RecordLaws.{part_put}
 use Rattle.running.proofs.clear.Goals as goal
-
-pub loop-k-init : goal.loop-k-init
-loop-k-init c = (omega arith, part_none _ _ (λ j. 0))
-
-pub loop-k-preserved : goal.loop-k-preserved
-loop-k-preserved c = (omega arith, part_more c.loop-k.invariant.1 (omega (arith, c.loop-k-test.true, c.requires)) refl)
-
-pub shape_of-index : goal.shape_of-index
-shape_of-index c = c.loop-k.invariant.1.whole
 
 pub returns : goal.returns
 returns c =
-    let e : c.loop-k.k ≡ c.args.size = omega (arith, c.loop-k.invariant.0, c.loop-k-test.false) in subst (λ (n : ℕ). Part c.args.index.now c.args.at n (λ j. 0) c.loop-k.index) e c.loop-k.invariant.1
+    let a = c.args in
+    let size : length (take (a.at + a.size - a.at) (drop a.at a.index.now)) ≡ a.size = omega (arith, length-take (a.at + a.size - a.at) (drop a.at a.index.now), length-drop a.at a.index.now) in
+    part_put a.index.now c.fill.new.self a.at (a.at + a.size - a.at) a.size (λ k. 0) c.requires (omega arith) (c.fill.ensures.len ∙ size)
+    (λ k h. ap (λ (l : List ℕ). get_or l k 0) (c.fill.ensures.after (λ y e. e))
+    ∙ get_or-replicate (length (take (a.at + a.size - a.at) (drop a.at a.index.now))) k 0 0 (omega arith))

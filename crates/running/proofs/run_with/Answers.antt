@@ -1,5 +1,6 @@
 -- `run_with` meets its contract: how the run begins, and that all records are visited. Assumes nothing.
 use Rattle.running.proofs.RunLaws.{marks-right, begun_running}
+use Rattle.running.proofs.VisitLaws.{over_as}
 use Rattle.running.proofs.run_with.Goals as goal
 
 pub fresh_marks-fresh-requires : goal.fresh_marks-fresh-requires
@@ -10,12 +11,14 @@ visit_all-requires c = (begun_running c.args.table.now c.args.rules c.begin-firs
 
 pub returns : goal.returns
 returns c =
-    record {
+    over_as c.visit_all.result
+    (λ d ended. record {
       first = c.begin-first.result;
       numbers = c.begin-first.new.rows;
       places = c.begin-first.new.index;
       begun = c.begin-first.ensures;
       fresh = c.fresh_marks-fresh.result;
       keeping = c.fresh_marks-fresh.ensures.1;
-      ended = c.visit_all.ensures;
-    }
+      ended = ended;
+    })
+    c.visit_all.ensures

@@ -1,11 +1,15 @@
 -- Chains of 4,096 places in 4,096 buckets, and the buckets of records. Assumes nothing.
-use Rattle.std.specs.Prelude.{List, [], ◌∷◌, ℕ, ◌+◌, ◌*◌, ◌/◌, ◌%◌}
+use Rattle.std.specs.Prelude.{Option, Some, None, List, [], ◌∷◌, ℕ, ◌+◌, ◌*◌, ◌/◌, ◌%◌, ◌<◌}
 use Rattle.chains.specs.Inner.Chains.{Chains as ChainsOf}
-pub use Rattle.chains.specs.Inner.Chains.{FoundAt}
 
 -- For each bucket a chain of the places that fall into it.
 abbrev pub Chains : (ℕ → ℕ) → List ℕ → List ℕ → ℕ → Type 0
 Chains = ChainsOf 4096 4096
+
+-- Found at a place, or nowhere.
+abbrev pub FoundIn : (ℕ → Type 0) → ℕ → Option ℕ → Type 0
+FoundIn Is count (Some at) = (at < count) × Is at
+FoundIn Is count None = (j : ℕ) → j < count → Is j → ⊥
 
 -- ---- buckets
 

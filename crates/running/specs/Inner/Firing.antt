@@ -1,10 +1,10 @@
 -- A rule of the table on a record that is held. Assumes nothing.
-use Rattle.std.specs.Prelude.{◌≡◌, true, List, [], ◌∷◌, map, ℕ, zero, suc, ◌+◌, ◌*◌, ◌≤◌, ◌<◌, length, get_or, take, drop}
+use Rattle.std.specs.Prelude.{◌≡◌, true, List, map, ℕ, zero, suc, ◌+◌, ◌*◌, ◌≤◌, ◌<◌, length, get_or, take, drop}
 use Rattle.patterns.specs.Pattern.{add_all}
 use Rattle.sheet.specs.Sheet.{top_mark, marks_from}
 use Rattle.chase.specs.Rules.{Head, Rule, marks_of}
 use Rattle.rules.specs.Table.{rule_in, row_bytes, TableFits}
-use Rattle.carrying.specs.Carrying.{Row, Row-discrete, FiresOn, row_made}
+use Rattle.carrying.specs.Carrying.{Row, Row-discrete, row_made}
 use Rattle.running.specs.Inner.Held.{unpacked, PackedRow, row_at}
 
 -- Rule r of the table, from 0.

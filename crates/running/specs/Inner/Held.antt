@@ -1,5 +1,5 @@
 -- What the memory of a run holds: its records, and an index of six sections. Assumes nothing.
-use Rattle.std.specs.Prelude.{◌≡◌, List, ℕ, ◌*◌, ◌≤◌, ◌<◌, length, get_or, take, drop}
+use Rattle.std.specs.Prelude.{◌≡◌, Option, Some, None, List, ℕ, ◌*◌, ◌≤◌, ◌<◌, length, get_or, take, drop}
 use Rattle.carrying.specs.Carrying.{Row}
 use Rattle.running.specs.Inner.Chains.{bucket_of, Chains}
 pub use Rattle.running.specs.Held.{code_of, packed, unpacked, PackedRow, row_at, rows_at, records_fit}
@@ -31,3 +31,8 @@ pub record Grown (numbers index : List ℕ) (by count : ℕ) (numbers' index' : 
   pub over : 4096 < r → 4096 < length new
   pub same : (i : ℕ) → i < count → row_at numbers' i ≡ row_at numbers i
   pub beyond : (j : ℕ) → 8192 ≤ j → get_or index' j 0 ≡ get_or index j 0
+
+-- What is said of an answer with so many records, or, where none is given, of more records than there is room for.
+abbrev pub OrOver : {A : Type 0} → (A → ℕ) → (A → Type 0) → Option A → Type 0
+OrOver records Said (Some a) = (records a ≤ 4096) × Said a
+OrOver {A} records Said None = (a : A) × (4096 < records a) × Said a

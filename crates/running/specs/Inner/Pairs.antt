@@ -1,10 +1,10 @@
 -- The pairs of a rule and its carried values that are noted. Assumes nothing.
-use Rattle.std.specs.Prelude.{◌≡◌, cond, List, [], ◌∷◌, ◌++◌, ℕ, zero, suc, ◌+◌, ◌*◌, ◌≤◌, ◌<◌, eqb, length, get_or}
+use Rattle.std.specs.Prelude.{◌≡◌, cond, List, [], ◌∷◌, ◌++◌, ℕ, zero, suc, ◌+◌, ◌≤◌, ◌<◌, eqb, length, get_or}
 use Rattle.chase.specs.Rules.{Rule}
 use Rattle.rules.specs.Table.{source_at}
 use Rattle.carrying.specs.Carrying.{Pair, FiresOn, pair_of}
 use Rattle.running.specs.Inner.Chains.{mixed, bucket_in, Chains}
-use Rattle.running.specs.Inner.Held.{section, unpacked, row_at}
+use Rattle.running.specs.Inner.Held.{section, row_at}
 use Rattle.running.specs.Inner.Firing.{rule_at, row_no, RecordIn}
 
 -- The values at the first places of the carried marks, mixed: n places from p on.

@@ -1,14 +1,14 @@
 -- Visits: the state that memory holds, and what visiting leaves. Assumes nothing.
-use Rattle.std.specs.Prelude.{◌≡◌, true, ◌⊎◌, List, [], ◌∷◌, ◌++◌, ℕ, zero, suc, ◌+◌, ◌*◌, ◌≤◌, ◌<◌, max, length, get_or}
+use Rattle.std.specs.Prelude.{◌≡◌, true, ◌⊎◌, List, [], ◌∷◌, ℕ, zero, suc, ◌+◌, ◌*◌, ◌≤◌, ◌<◌, max, length, get_or}
 use Rattle.std.proofs.Math.Option.{Option, none, some}
 use Rattle.std.proofs.Math.ListN.{get_elem?}
 use Rattle.patterns.specs.Pattern.{pick}
 use Rattle.chase.specs.Lists.{in?}
 use Rattle.sheet.specs.Sheet.{top_mark, marks_from}
 use Rattle.chase.specs.Rules.{Rule, marks_of}
-use Rattle.carrying.specs.Carrying.{Row, Pair-discrete, State, FiresOn, fires_on?, fresh_marks, pair_of, fired}
+use Rattle.carrying.specs.Carrying.{Row, Pair-discrete, State, fires_on?, fresh_marks, pair_of, fired}
 use Rattle.running.specs.Inner.Held.{row_at, rows_at, Stored}
-use Rattle.running.specs.Inner.Firing.{rule_at, row_no, Ready, with_made}
+use Rattle.running.specs.Inner.Firing.{rule_at, Ready, with_made}
 use Rattle.running.specs.Inner.Pairs.{Noted, pairs_at}
 use Rattle.running.specs.declared.visits.Counts.{Counts}
 
@@ -81,6 +81,10 @@ kept_after keep rules begin (suc k) = kept_visit keep rules (get_elem? (kept_aft
 -- Whether the pairs of rule r are kept.
 abbrev pub keep_in : List ℕ → ℕ → ℕ
 keep_in fresh r = get_or fresh (512 + r) 0
+
+-- How many records there are.
+abbrev pub rows_held : Counts → ℕ
+rows_held c = c.rows
 
 -- So many rules of the table, from rule r on.
 abbrev pub rules_from : List ℕ → ℕ → ℕ → List Rule

@@ -1,24 +1,22 @@
 -- What the inner functions of this crate promise each other. The public contracts do not rest on it. Assumes nothing.
-use Rattle.std.specs.Prelude.{◌≡◌, Bool, true, false, cond, ◌&&◌, List, [], ◌∷◌, ◌++◌, ℕ, zero, suc, ◌+◌, ◌*◌, ◌≤◌, ◌<◌, eqb, leb, ltb, length, get_or, take, drop}
+use Rattle.std.specs.Prelude.{◌≡◌, Bool, true, cond, ◌&&◌, List, [], ◌∷◌, ◌++◌, ℕ, zero, suc, ◌+◌, ◌*◌, ◌≤◌, eqb, leb, ltb, length, get_or, take, drop, Result}
 use Rattle.std.proofs.Math.Option.{Option, none, some}
-use Rattle.patterns.specs.Outcome.{Outcome, good, refused, map_good, counted, held}
+use Rattle.std.specs.Prelude.{Option as Maybe, Some, None, Ok, Err}
+use Rattle.patterns.specs.Outcome.{good, refused, map_good, counted, held}
 use Rattle.sheet.specs.Answer.{refusal_says}
-use Rattle.sheet.specs.Line.{K, B, H, R, Line, form_says, form_of_line, in_range, render, lent, text_of, lent_of}
+use Rattle.sheet.specs.Line.{K, B, R, Line, form_says, form_of_line, in_range, render, lent, text_of, lent_of}
 use Rattle.sheet.specs.Sheet.{in_place, letter_before, kind_before, width_of, top_mark, marks_from, mark_before, lines_with, heads_before, refusal}
 use Rattle.sheet.specs.Read.{sheet_in, read_says}
 use Rattle.sheet.specs.Write.{sheet_held}
 use Rattle.sheet.specs.declared.Refusal.{Refusal}
-use Rattle.sheet.specs.declared.ReadAnswer.{ReadAnswer}
 use Rattle.sheet.specs.declared.Form.{Form}
-use Rattle.sheet.specs.declared.Form.TheVariants.{Kind, Body, Head, Row, Unknown}
+use Rattle.sheet.specs.declared.Form.TheVariants.{Kind, Body, Head, Row}
 use Rattle.sheet.specs.declared.order.Seen.{Seen}
-use Rattle.sheet.specs.declared.order.Admitted.{Admitted}
-use Rattle.sheet.specs.declared.order.Admitted.TheVariants.{Yes, No}
-use Rattle.sheet.specs.declared.lent.Measured.{Measured}
-use Rattle.sheet.specs.declared.lent.Measured.TheVariants.{Size, Wrong}
+use Rattle.sheet.specs.declared.order.Fault.{Fault}
+use Rattle.sheet.specs.declared.order.Fault.TheVariants.{Place, Width, Mark, Room}
 
 -- What is parsed of a line.
-abbrev pub ParsedAs : Option Line → Form → List ℕ → Type 0
+abbrev pub ParsedAs : Option Line → Maybe Form → List ℕ → Type 0
 ParsedAs none form numbers = form_says form ≡ refused 2 0
 ParsedAs (some l) form numbers = (form_says form ≡ form_says (form_of_line l)) × (numbers ≡ lent l)
 
@@ -28,23 +26,14 @@ pub record Widths (before : List Line) (widths : List ℕ) : Type 0 where
   pub each : (kind : ℕ) → get_or widths kind 0 ≡ width_of before kind
 
 -- What is kept of the lines before.
-pub record Keeps (before : List Line) (seen : Seen) (widths : List ℕ) : Type 0 where
+pub record Keeps (before : List Line) (seen : Seen) : Type 0 where
   pub letter : seen.letter ≡ letter_before before
   pub kind : seen.kind ≡ kind_before before
   pub mark : seen.mark ≡ mark_before before
   pub rules : seen.rules ≡ lines_with B before
   pub heads : seen.heads ≡ heads_before before
   pub rows : seen.rows ≡ lines_with R before
-  pub table : Widths before widths
-
--- What is kept where there are no lines before.
-pub record NothingSeen (seen : Seen) : Type 0 where
-  pub letter : seen.letter ≡ 0
-  pub kind : seen.kind ≡ 0
-  pub mark : seen.mark ≡ 0
-  pub rules : seen.rules ≡ 0
-  pub heads : seen.heads ≡ 0
-  pub rows : seen.rows ≡ 0
+  pub table : Widths before seen.widths
 
 -- A form that has marks has at most six.
 abbrev pub FieldsFit : Form → Type 0
@@ -52,36 +41,27 @@ FieldsFit Kind = Unit {0}
 FieldsFit (Body n) = n ≤ 6
 FieldsFit (Head n) = n ≤ 6
 FieldsFit (Row n) = Unit {0}
-FieldsFit Unknown = Unit {0}
 
--- There is room for a line of this form.
-abbrev pub HasRoom : Seen → Form → Type 0
-HasRoom seen Kind = Unit {0}
-HasRoom seen (Body n) = seen.rules < 256
-HasRoom seen (Head n) = seen.heads < 4
-HasRoom seen (Row n) = seen.rows < 1024
-HasRoom seen Unknown = Unit {0}
+-- Document 01's number for each fault.
+abbrev pub fault_number : Fault → ℕ
+fault_number Place = 3
+fault_number Width = 4
+fault_number Mark = 5
+fault_number Room = 6
 
--- What is kept after a line of this form and kind, where mark is the largest mark of its rule so far.
-abbrev pub kept_after : Seen → Form → ℕ → ℕ → Seen
-kept_after seen Kind kind mark = record { letter = K; kind = kind; mark = 0; rules = seen.rules; heads = 0; rows = seen.rows }
-kept_after seen (Body n) kind mark = record { letter = B; kind = kind; mark = mark; rules = seen.rules + 1; heads = 0; rows = seen.rows }
-kept_after seen (Head n) kind mark = record { letter = H; kind = kind; mark = mark; rules = seen.rules; heads = seen.heads + 1; rows = seen.rows }
-kept_after seen (Row n) kind mark = record { letter = R; kind = kind; mark = 0; rules = seen.rules; heads = 0; rows = seen.rows + 1 }
-kept_after seen Unknown kind mark = seen
+-- The number of the fault that is found; 0 where none is.
+abbrev pub fault_in : {A : Type 0} → Result A Fault → ℕ
+fault_in (Ok x) = 0
+fault_in (Err fault) = fault_number fault
 
--- What is answered of a line after the lines before it, where `next` is kept then.
-abbrev pub AdmittedAs : (ℕ → Seen) → List Line → Line → Admitted → List ℕ → Type 0
-AdmittedAs next before l (Yes mark) widths = (refusal before l ≡ 0) × Keeps (l ∷ before) (next mark) widths
-AdmittedAs next before l (No number) widths = (refusal before l ≡ number) × (3 ≤ number) × (number ≤ 6)
+-- What is answered of a line after the lines before it, where `seen` is kept then.
+abbrev pub AdmittedAs : {A : Type 0} → List Line → Line → Result A Fault → Seen → Type 0
+AdmittedAs before l (Ok x) seen = (refusal before l ≡ 0) × Keeps (l ∷ before) seen
+AdmittedAs before l (Err fault) seen = refusal before l ≡ fault_number fault
 
--- A line of the form, with these lent numbers, after any lines of which this is kept.
-pub record Admits (seen : Seen) (widths : List ℕ) (form : Form) (numbers : List ℕ) (answer : Admitted) (after : List ℕ) : Type 0 where
-  pub size : length after ≡ 65
-  pub unknown : form ≡ Unknown → answer ≡ No 2
-  pub room : (mark : ℕ) → answer ≡ Yes mark → HasRoom seen form
-  pub each : (before : List Line) (l : Line) → (form ≡ Unknown → ⊥) → Keeps before seen widths → form ≡ form_of_line l → numbers ≡ lent l
-      → AdmittedAs (kept_after seen form (get_or numbers 1 0)) before l answer after
+-- A line of the form, with these lent numbers, after any lines of which the old is kept; the new is kept with it.
+pub record Admits {A : Type 0} (old : Seen) (form : Form) (numbers : List ℕ) (answer : Result A Fault) (new : Seen) : Type 0 where
+  pub each : (before : List Line) (l : Line) → Keeps before old → Some form ≡ form_of_line l → numbers ≡ lent l → AdmittedAs before l answer new
 
 -- The refusal of a B, H or R line for its place or its kind, where w is the width declared for the kind; 0 where it gets neither.
 abbrev pub placed_of : ℕ → ℕ → ℕ → ℕ → ℕ
@@ -91,20 +71,23 @@ placed_of last letter fields w = cond (in_place last letter) (cond (ltb 0 w && e
 abbrev pub declares : ℕ → ℕ → ℕ → Bool
 declares last kind width = leb 1 kind && leb kind 64 && ltb last kind && leb 1 width && leb width 6
 
--- The largest mark where the marks are right after m, and 0 where they are not.
-abbrev pub marks_top : ℕ → List ℕ → ℕ
-marks_top m ns = cond (marks_from m ns) (top_mark m ns) 0
+-- The largest mark where the marks are right after m.
+abbrev pub marks_top : ℕ → List ℕ → Maybe ℕ
+marks_top m ns = cond (marks_from m ns) (Some (top_mark m ns)) None
 
--- What a B or H line is answered: by its place and its kind, by the largest of its marks, by the room for it.
-abbrev pub answer_for : ℕ → ℕ → Bool → Admitted
-answer_for wrong mark full = cond (eqb wrong 0) (cond (eqb mark 0) (No 5) (cond full (No 6) (Yes mark))) (No wrong)
+-- The fault of a B or H line: for its place or its kind, for its marks, for the room; 0 where it has none.
+abbrev pub marked_of : ℕ → Maybe ℕ → Bool → ℕ
+marked_of (suc number) marks full = suc number
+marked_of zero None full = 5
+marked_of zero (Some mark) full = cond full 6 0
 
-abbrev pub measured_says : Measured → Outcome ℕ
-measured_says (Size n) = good n
-measured_says (Wrong line) = refused 8 line
+-- What a B or H line is answered: its fault, or the largest of its marks.
+pub record Marked (placed : ℕ) (marks : Maybe ℕ) (full : Bool) (answer : Result ℕ Fault) : Type 0 where
+  pub fault : fault_in answer ≡ marked_of placed marks full
+  pub mark : (top : ℕ) → answer ≡ Ok top → marks ≡ Some top
 
 -- What is answered for a text that is scanned; where it is a sheet, the numbers of its lines then stand in front.
-pub record Scanned (text : List ℕ) (answer : ReadAnswer) (numbers : List ℕ) : Type 0 where
+pub record Scanned (text : List ℕ) (answer : Result ℕ Refusal) (numbers : List ℕ) : Type 0 where
   pub says : read_says answer ≡ counted (sheet_in text)
   pub lines : (ls : List Line) → sheet_in text ≡ good ls → take (8 * length ls) numbers ≡ lent_of ls
 

@@ -1,10 +1,7 @@
 -- The loop's invariant: the first i steps are shown. Assumes nothing.
-use Rattle.std.proofs.Common.{◌-◌, ◌≡◌, ◌≤◌}
+use Rattle.std.proofs.Common.{◌≡◌}
 use Rattle.steps.specs.Showing.{showing}
 use Rattle.steps.proofs.fill.Given as goal
 
 abbrev pub invariant-loop-i : goal.invariant-loop-i
-invariant-loop-i l = (l.i ≤ l.n) × (l.records ≡ showing l.numbers l.initial.records l.i)
-
-abbrev pub decreases-loop-i : goal.decreases-loop-i
-decreases-loop-i l = l.n - l.i
+invariant-loop-i l = l.record-items ≡ showing l.numbers l.initial.record-items l.i

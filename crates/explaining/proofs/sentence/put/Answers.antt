@@ -77,16 +77,16 @@ pub put_part-to-requires : goal.put_part-to-requires
 put_part-to-requires c =
     next_part-fits (bytes " field ") (decimal c.args.s.to) (room c.args.text.now c.args.at c.args.s c.requires).to (told5 c.args.text.now c.args.at c.args.s c.requires c.put_part-rule.ensures c.put_part-head.ensures c.put_part-body.ensures c.put_part-from.ensures c.put_part-made.ensures)
 
-pub put_manner-manner-requires : goal.put_manner-manner-requires
-put_manner-manner-requires c =
-    next_fits (manner c.args.s.from c.args.s.to c.args.s.fresh) (room c.args.text.now c.args.at c.args.s c.requires).manner_word (told6 c.args.text.now c.args.at c.args.s c.requires c.put_part-rule.ensures c.put_part-head.ensures c.put_part-body.ensures c.put_part-from.ensures c.put_part-made.ensures c.put_part-to.ensures)
+pub put_word-end-requires : goal.put_word-end-requires
+put_word-end-requires c =
+    rw c.manner.ensures (next_fits (manner c.args.s.from c.args.s.to c.args.s.fresh) (room c.args.text.now c.args.at c.args.s c.requires).manner_word (told6 c.args.text.now c.args.at c.args.s c.requires c.put_part-rule.ensures c.put_part-head.ensures c.put_part-body.ensures c.put_part-from.ensures c.put_part-made.ensures c.put_part-to.ensures))
 
-pub put_place-requires : goal.put_place-requires
-put_place-requires c =
-    next_fits (place c.args.s.in_loop) (room c.args.text.now c.args.at c.args.s c.requires).place_word (told7 c.args.text.now c.args.at c.args.s c.requires c.put_part-rule.ensures c.put_part-head.ensures c.put_part-body.ensures c.put_part-from.ensures c.put_part-made.ensures c.put_part-to.ensures c.put_manner-manner.ensures)
+pub put_word-requires : goal.put_word-requires
+put_word-requires c =
+    rw c.place.ensures (next_fits (place c.args.s.in_loop) (room c.args.text.now c.args.at c.args.s c.requires).place_word (told7 c.args.text.now c.args.at c.args.s c.requires c.put_part-rule.ensures c.put_part-head.ensures c.put_part-body.ensures c.put_part-from.ensures c.put_part-made.ensures c.put_part-to.ensures (rw c.manner.ensures at c.put_word-end.ensures)))
 
 pub shape_of-text : goal.shape_of-text
-shape_of-text c = puts_length c.requires (puts_sentence _ _ (told8 c.args.text.now c.args.at c.args.s c.requires c.put_part-rule.ensures c.put_part-head.ensures c.put_part-body.ensures c.put_part-from.ensures c.put_part-made.ensures c.put_part-to.ensures c.put_manner-manner.ensures c.put_place.ensures))
+shape_of-text c = puts_length c.requires (puts_sentence _ _ (told8 c.args.text.now c.args.at c.args.s c.requires c.put_part-rule.ensures c.put_part-head.ensures c.put_part-body.ensures c.put_part-from.ensures c.put_part-made.ensures c.put_part-to.ensures (rw c.manner.ensures at c.put_word-end.ensures) (rw c.place.ensures at c.put_word.ensures)))
 
 pub returns : goal.returns
-returns c = puts_sentence _ _ (told8 c.args.text.now c.args.at c.args.s c.requires c.put_part-rule.ensures c.put_part-head.ensures c.put_part-body.ensures c.put_part-from.ensures c.put_part-made.ensures c.put_part-to.ensures c.put_manner-manner.ensures c.put_place.ensures)
+returns c = puts_sentence _ _ (told8 c.args.text.now c.args.at c.args.s c.requires c.put_part-rule.ensures c.put_part-head.ensures c.put_part-body.ensures c.put_part-from.ensures c.put_part-made.ensures c.put_part-to.ensures (rw c.manner.ensures at c.put_word-end.ensures) (rw c.place.ensures at c.put_word.ensures))

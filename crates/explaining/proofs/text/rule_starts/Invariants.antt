@@ -1,11 +1,6 @@
 -- `text::rule_starts` meets its contract. The loop's invariant: the rules that begin before line n are found. Assumes nothing.
-use Prim.Native.Nat.{◌-◌}
-use lib.ListN.{length}
 use Rattle.explaining.proofs.StartLaws.{StartsTo}
 use Rattle.explaining.proofs.text.rule_starts.Given as goal
 
 abbrev pub invariant-loop-n : goal.invariant-loop-n
 invariant-loop-n l = StartsTo l.lines l.starts l.count l.n
-
-abbrev pub decreases-loop-n : goal.decreases-loop-n
-decreases-loop-n l = length l.lines - l.n

@@ -4,5 +4,5 @@ use Rattle.followup.proofs.bytes.five_at.Goals as goal
 
 pub returns : goal.returns
 returns c =
-    five_numbers c.args.bytes.now c.args.at c.u16_at-a.ensures c.u16_at-b.ensures c.u16_at-c.ensures
-    c.u16_at-d.ensures c.u16_at-e.ensures
+    five_numbers c.args.bytes.now c.args.at c.u16_at.ensures c.u16_at-2.ensures c.u16_at-3.ensures
+    c.u16_at-4.ensures c.u16_at-5.ensures

@@ -1,10 +1,7 @@
--- `forecasting::marks::body_marks` marks the marks of the B line. The invariant: the states are those of the marks passed. Assumes nothing.
-use Prim.Native.Nat.{◌-◌}
-use Rattle.forecasting.proofs.MarkLaws.{Passed, BodyCounted}
+-- `forecasting::marks::body_marks` marks the marks of the B line. The invariant: what is said of the marks passed is so. Assumes nothing.
+use Rattle.std.specs.Prelude.{[], take}
+use Rattle.forecasting.specs.Inner.Marks.{Counted}
 use Rattle.forecasting.proofs.marks.body_marks.Given as goal
 
-abbrev pub invariant-loop-i : goal.invariant-loop-i
-invariant-loop-i l = Passed l.lines l.n l.i (BodyCounted l.met)
-
-abbrev pub decreases-loop-i : goal.decreases-loop-i
-decreases-loop-i l = 6 - l.i
+abbrev pub invariant-loop-mark : goal.invariant-loop-mark
+invariant-loop-mark l = Counted (take l.mark-index l.marks) [] l.met 0 0

@@ -1,11 +1,6 @@
 -- `terms::rule_terms` meets its contract. The invariant: the rules of the lines passed are counted by their carried marks. Assumes nothing.
-use Prim.Native.Nat.{◌-◌}
-use lib.ListN.{length}
 use Rattle.forecasting.proofs.TermLaws.{RulesSeen}
 use Rattle.forecasting.proofs.terms.rule_terms.Given as goal
 
 abbrev pub invariant-loop-n : goal.invariant-loop-n
 invariant-loop-n l = RulesSeen l.lines l.n l.fresh l.pairs
-
-abbrev pub decreases-loop-n : goal.decreases-loop-n
-decreases-loop-n l = length l.lines - l.n

@@ -13,12 +13,10 @@ bounds-kinds-kind c =
 pub loop-r-preserved : goal.loop-r-preserved
 loop-r-preserved c =
     let t = c.loop-r-test.true in
-    let k = kind_low c.requires c.loop-r.r t in (
-      omega arith,
-      elim c.if-rule_fresh.branch [
-        | then-rule_fresh w ↦
-            let e = w.rule_byte-kind.ensures.0 in
-            rw w.kinds-is (kinds_more c.loop-r.invariant.1 w.rule_byte-kind.result e (omega arith))
-        | else-rule_fresh w ↦ rw w.kinds-is (kinds_same c.loop-r.invariant.1 (rw w.if-rule_fresh.false at c.rule_fresh.ensures))
-      ],
-    )
+    let k = kind_low c.requires c.loop-r.r t in
+    elim c.if-rule_fresh.branch [
+      | then-rule_fresh w ↦
+          let e = w.rule_byte-kind.ensures.0 in
+          rw w.kinds-is (kinds_more c.loop-r.invariant w.rule_byte-kind.result e (omega arith))
+      | else-rule_fresh w ↦ rw w.kinds-is (kinds_same c.loop-r.invariant (rw w.if-rule_fresh.false at c.rule_fresh.ensures))
+    ]

@@ -1,6 +1,5 @@
 -- `fresh::head_fresh` meets its contract: the fields passed have no fresh mark. Assumes nothing.
 use mathlib.Core.Path.{◌≡◌, ◌∙◌}
-use native.Mathlib.Omega.{arith}
 use borrow.Author.Count.{below_more}
 use Rattle.rules.specs.Table.{row_bytes}
 use Rattle.judging.specs.Inner.Passes.{place_of}
@@ -20,4 +19,4 @@ place c =
 pub loop-j-preserved : goal.loop-j-preserved
 loop-j-preserved c =
     let a = c.args in
-    (omega arith, below_more (λ i. place_of (row_bytes a.table.now a.r) a.h i ≡ 0 → ⊥) c.loop-j.j c.loop-j.invariant.1 (λ z. c.if-rule_byte-eq0.false (place (goal.at.loop-j-preserved c).After-rule_byte ∙ z)))
+    below_more (λ i. place_of (row_bytes a.table.now a.r) a.h i ≡ 0 → ⊥) c.loop-j.j c.loop-j.invariant (λ z. c.if-rule_byte-eq0.false (place (goal.at.loop-j-preserved c).After-rule_byte ∙ z))

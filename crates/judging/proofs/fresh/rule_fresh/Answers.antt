@@ -17,9 +17,9 @@ head_fresh-requires c =
 pub loop-h-preserved : goal.loop-h-preserved
 loop-h-preserved c =
     let a = c.args in
-    (omega arith, below_more (λ i. HeadFresh (row_bytes a.table.now a.r) i → ⊥) c.loop-h.h c.loop-h.invariant.1 (rw c.if-head_fresh.false at c.head_fresh.ensures))
+    below_more (λ i. HeadFresh (row_bytes a.table.now a.r) i → ⊥) c.loop-h.h c.loop-h.invariant (rw c.if-head_fresh.false at c.head_fresh.ensures)
 
 pub returns : goal.returns
 returns c =
     let e = c.rule_byte-heads.ensures.0 in
-    λ f. let b = f.below in c.loop-h.invariant.1 f.h (omega arith) f.head
+    λ f. let b = f.below in c.loop-h.invariant f.h (omega arith) f.head

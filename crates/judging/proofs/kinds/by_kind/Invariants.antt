@@ -4,6 +4,3 @@ use Rattle.judging.proofs.kinds.by_kind.Given as goal
 
 abbrev pub invariant-loop-r : goal.invariant-loop-r
 invariant-loop-r l = Linked l.table l.rules l.kinds l.r
-
-abbrev pub decreases-loop-r : goal.decreases-loop-r
-decreases-loop-r l = l.r

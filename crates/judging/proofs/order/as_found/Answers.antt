@@ -1,16 +1,18 @@
 -- `order::as_found` meets its contract: each place so far holds itself. Assumes nothing.
-use Prim.Native.Nat.{ℕ}
+use mathlib.Core.Path.{◌≡◌, ◌∙◌}
+use mathlib.Core.List.{List}
+use Prim.Native.Nat.{ℕ, ◌≤◌}
 use native.Mathlib.Omega.{arith}
-use lib.ListN.{length-replicate}
-use Rattle.judging.proofs.OrderLaws.{in_turn, in_turn_all}
+use lib.ListN.{length, drop, replicate}
+use Rattle.std.proofs.lemmas.List.{length-take-le, length-drop, length-replicate}
+use Rattle.judging.proofs.OrderLaws.{in_turn}
 use Rattle.judging.proofs.order.as_found.Goals as goal
 
-pub loop-i-init : goal.loop-i-init
-loop-i-init c = (omega arith, length-replicate {A = ℕ} 512 0, λ j l. absurd (omega arith))
-
-pub loop-i-preserved : goal.loop-i-preserved
-loop-i-preserved c =
-    in_turn c.loop-i.order c.loop-i.invariant.1 c.loop-i.invariant.2 c.loop-i-test.true c.requires
-
 pub returns : goal.returns
-returns c = in_turn_all c.loop-i.invariant.1 c.loop-i.invariant.2 c.loop-i-test.false
+returns c =
+    let n = c.args.count in
+    let zeros : List ℕ = replicate 512 0 in
+    let z = length-replicate {A = ℕ} 512 0 in
+    let front : length c.loop-i.place-items ≡ n = c.loop-i.auto.place-items ∙ length-take-le n zeros (omega arith) in
+    let all : n ≤ c.loop-i.i = omega (arith, c.loop-i-test.false, length-take-le n zeros (omega arith)) in
+    in_turn c.loop-i.place-items (drop n zeros) front (length-drop n zeros ∙ omega arith) c.requires (λ j l. c.loop-i.invariant j (omega arith))

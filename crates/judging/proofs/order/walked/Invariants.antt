@@ -1,5 +1,6 @@
 -- `order::walked` meets its contract. The measures are the shapes left to shelve, the roots left, and twice the shapes without a mark plus the depth. Assumes nothing.
 use mathlib.Core.Path.{◌≡◌}
+use mathlib.Core.Bool.{false}
 use Prim.Native.Nat.{ℕ, ◌+◌, ◌-◌, ◌*◌, ◌<◌, ◌≤◌}
 use lib.ListN.{length, get_or}
 use Rattle.judging.proofs.OrderLaws.{marked, Walk}
@@ -7,7 +8,7 @@ use Rattle.judging.proofs.order.walked.Given as goal
 
 abbrev pub invariant-loop-left : goal.invariant-loop-left
 invariant-loop-left l =
-    (length l.next ≡ 513) × ((x : ℕ) → x < l.left → get_or l.marks x 0 ≡ 0) × Walk l.count 0 l.order l.marks l.stack l.left 0
+    (length l.next ≡ 513) × ((x : ℕ) → x < l.left → get_or l.marks x false ≡ false) × Walk l.count 0 l.order l.marks l.stack l.left 0
 
 abbrev pub decreases-loop-left : goal.decreases-loop-left
 decreases-loop-left l =
@@ -24,7 +25,3 @@ decreases-loop-depth l =
 abbrev pub invariant-loop-root : goal.invariant-loop-root
 invariant-loop-root l =
     (l.root ≤ l.count) × (length l.next ≡ 513) × Walk l.count l.root l.order l.marks l.stack l.left 0
-
-abbrev pub decreases-loop-root : goal.decreases-loop-root
-decreases-loop-root l =
-    l.count - l.root

@@ -3,13 +3,11 @@ use mathlib.Core.Path.{◌≡◌, refl, sym, ◌∙◌, ap}
 use mathlib.Core.List.{List}
 use Prim.Native.Nat.{ℕ, ◌+◌}
 use native.Mathlib.Omega.{arith}
-use borrow.Author.Rules.{rules}
 use Rattle.patterns.specs.Pattern.{digits_of, pattern_table, digits_in}
 use Rattle.patterns.proofs.PatternRows.{table-rows}
-use Rattle.rules.proofs.PartLaws.{zeros, zero_at}
 use Rattle.judging.proofs.KindLaws.{first-place, fired-place, fire_from}
-use Rattle.judging.proofs.SearchLaws.{doing_begun, ruling_first, ruling_fires, ruling_next, ruling_last, heading_last, heading_same, heading_below, heading_four, heading_seen, heading_push, heading_more, try_all}
-use Rattle.judging.proofs.NoteLaws.{noting_begun, noting_seen, noting_new, noting_rule, noting-next, noting-shape, noting-all, noting-room, new_there, seen_there}
+use Rattle.judging.proofs.SearchLaws.{doing_begun, ruling_first, ruling_fires, ruling_next, ruling_last, heading_last, heading_same, heading_four, heading_seen, heading_push, heading_more, try_all}
+use Rattle.judging.proofs.NoteLaws.{noting_begun, noting_seen, noting_new, noting_rule, noting-next, noting-shape, noting-all, noting-room}
 use Rattle.judging.proofs.search.search.Goals as goal
 use Rattle.judging.proofs.search.search.Goals.{then-index-code-eq0+else-count-eq512, else-index-code-eq0}
 
@@ -17,71 +15,35 @@ use Rattle.judging.proofs.search.search.Goals.{then-index-code-eq0+else-count-eq
 looked_up : (t : List ℕ) (n : ℕ) {d : List ℕ} → d ≡ digits_in t n → t ≡ pattern_table → d ≡ digits_of n
 looked_up t n e p = e ∙ ap (λ u. digits_in u n) p ∙ table-rows n
 
-pub returns-in_default : goal.returns-in_default
-returns-in_default c = (
-  record { all = λ e. search rules; more = λ _. rw c.in_default.is at c.find_rows.ensures },
-  λ e. search rules,
-)
-
-pub search-init : goal.search-init
-search-init c = (
-  refl,
+pub loop-s-init : goal.loop-s-init
+loop-s-init c = (
   omega arith,
   record { fits = c.requires.1; are = c.requires.2 },
-  doing_begun (zeros 256) (rw c.in-Count.is at c.find_rows.ensures) (record { size = refl; zeros = zero_at 256 }),
+  doing_begun c.args.fired.now c.in_ok-count.ensures c.requires.9.size c.requires.9.none,
   noting_begun c.args.starts.now refl c.requires.8,
 )
 
-pub overflow_cast-shape : goal.overflow_cast-shape
-overflow_cast-shape c = let b = c.search.invariant.3.kept.small _ c.search-test.true in search rules
-
-pub overflow_add-kind : goal.overflow_add-kind
-overflow_add-kind c = let b = c.search.invariant.3.kept.small _ c.search-test.true in search rules
-
-pub overflow_add-shape : goal.overflow_add-shape
-overflow_add-shape c = let b = c.search.invariant.3.kept.small _ c.search-test.true in search rules
-
-pub next_fire-r-requires : goal.next_fire-r-requires
-next_fire-r-requires c =
-    let i = c.search.invariant in
+pub next_fire-next-requires : goal.next_fire-next-requires
+next_fire-next-requires c =
+    let i = c.loop-s.invariant in
     let d = looked_up _ _ c.digits_in-digits.ensures c.pattern_table-patterns.ensures in
-    let x = ruling_first _ _ _ i.2 i.3 refl c.search-test.true refl d in
-    let b = i.3.kept.small _ c.search-test.true in
-    (i.2.fits, c.requires.6, first-place _ (omega arith), x.on.digits_fit)
+    let x = ruling_first _ _ _ i.1 i.2 refl c.loop-s-test.true refl d in
+    let b = i.2.kept.small _ c.loop-s-test.true in
+    (i.1.fits, c.requires.6, first-place _ (omega arith), x.on.digits_fit)
 
-pub loop-r-init : goal.loop-r-init
-loop-r-init c =
-    let i = c.search.invariant in
-    let b = i.3.kept.small _ c.search-test.true in
-    let f = fire_from 0 (omega arith) c.next_fire-r.ensures in
+pub loop-next-init : goal.loop-next-init
+loop-next-init c =
+    let i = c.loop-s.invariant in
+    let b = i.2.kept.small _ c.loop-s-test.true in
+    let f = fire_from 0 (omega arith) c.next_fire-next.ensures.fire in
     let d = looked_up _ _ c.digits_in-digits.ensures c.pattern_table-patterns.ensures in
-    let x = ruling_first _ _ _ i.2 i.3 refl c.search-test.true refl d in
-    (i.0, f.fires, ruling_next x f, noting-next (noting-room (sym i.4.size_notes) i.4) x.on x.here f)
+    let x = ruling_first _ _ _ i.1 i.2 refl c.loop-s-test.true refl d in
+    (c.next_fire-next.ensures.low, f.fires, ruling_next x f, noting-next (noting-room (sym i.3.size_notes) i.3) x.on x.here f)
 
 pub loop-h-init : goal.loop-h-init
 loop-h-init c =
-    let i = c.loop-r.invariant in
-    let l = c.loop-r-test.true in
-    (i.0, ruling_fires i.2 _ (i.1 l) l c.rule_byte-heads.ensures.0, noting-room (sym i.3.size_notes) i.3)
-
-pub made-code-requires : goal.made-code-requires
-made-code-requires c = let x = c.loop-h.invariant.1 in (x.ruled.fits, x.r_low, heading_below x c.loop-h-test.true, x.on.digits_fit)
-
-pub note-requires : goal.note-requires
-note-requires c =
-    let i = c.loop-h.invariant in
-    let x = i.1 in
-    let is = c.made-code.ensures in
-    let few = x.ruled.fits.few in
-    let low = x.r_low in
-    let four = heading_four x in
-    let up = x.h_low in (
-      omega arith,
-      elim c.if-index-code-eq0.branch [
-        | then-index-code-eq0+else-count-eq512 w ↦ new_there x _ is (w.index-is ∙ w.push.ensures.1)
-        | else-index-code-eq0 w ↦ seen_there x _ is w.if-index-code-eq0.false w.index-is
-      ],
-    )
+    let i = rw c.in-Some.is at c.loop-next.invariant in
+    (ruling_fires i.2 _ (i.1 i.0) i.0 c.rule_byte-heads.ensures.0, noting-room (sym i.3.size_notes) i.3)
 
 pub loop-h-preserved : goal.loop-h-preserved
 loop-h-preserved c =
@@ -89,73 +51,48 @@ loop-h-preserved c =
     let m = c.made-code in
     let t = c.loop-h-test.true in
     let note = c.note.ensures in (
-      i.0,
       elim c.if-index-code-eq0.branch [
         | then-index-code-eq0+else-count-eq512 w ↦
             let p = w.push.ensures in
-            heading_same (heading_push i.1 _ m.ensures t w.if-count-eq512.false w.if-index-code-eq0.true) _ _ _ _
+            heading_same (heading_push i.0 _ m.ensures t w.if-count-eq512.false w.if-index-code-eq0.true) _ _ _ _
             (w.shapes-is ∙ p.0) (w.index-is ∙ p.1) (w.ways-is ∙ p.2) w.count-is
         | else-index-code-eq0 w ↦
-            heading_same (heading_seen i.1 _ m.ensures t w.if-index-code-eq0.false) _ _ _ _ w.shapes-is w.index-is w.ways-is w.count-is
+            heading_same (heading_seen i.0 _ m.ensures t w.if-index-code-eq0.false) _ _ _ _ w.shapes-is w.index-is w.ways-is w.count-is
       ],
       elim c.if-index-code-eq0.branch [
         | then-index-code-eq0+else-count-eq512 w ↦
             let p = w.push.ensures in
-            noting_new i.1 i.2 _ m.ensures t note w.if-count-eq512.false w.if-index-code-eq0.true (w.shapes-is ∙ p.0) (w.index-is ∙ p.1)
-        | else-index-code-eq0 w ↦ noting_seen i.1 i.2 _ m.ensures t note w.if-index-code-eq0.false w.shapes-is w.index-is
+            noting_new i.0 i.1 _ m.ensures t note w.if-count-eq512.false w.if-index-code-eq0.true (w.shapes-is ∙ p.0) (w.index-is ∙ p.1)
+        | else-index-code-eq0 w ↦ noting_seen i.0 i.1 _ m.ensures t note w.if-index-code-eq0.false w.shapes-is w.index-is
       ],
     )
 
-pub next_fire-r-requires-in-loop-r : goal.next_fire-r-requires-in-loop-r
-next_fire-r-requires-in-loop-r c =
-    let x = c.loop-h.invariant.1 in
+pub next_fire-next-requires-in-Some : goal.next_fire-next-requires-in-Some
+next_fire-next-requires-in-Some c =
+    let x = c.loop-h.invariant.0 in
     (x.ruled.fits, c.requires.6, fired-place _ _ x.on.kind_is x.applies x.r_low, x.on.digits_fit)
 
-pub loop-r-smaller : goal.loop-r-smaller
-loop-r-smaller c =
-    let l = c.loop-h.invariant.1.r_low in
-    let f = c.next_fire-r-in-loop-r.ensures.begun in omega arith
-
-pub loop-r-preserved : goal.loop-r-preserved
-loop-r-preserved c =
+pub loop-next-preserved : goal.loop-next-preserved
+loop-next-preserved c =
     let i = c.loop-h.invariant in
-    let f = fire_from (c.loop-r.r + 1) (omega arith) c.next_fire-r-in-loop-r.ensures in
-    let x = i.1 in
+    let f = fire_from (c.in-Some.r + 1) (omega arith) c.next_fire-next-in-Some.ensures.fire in
+    let x = i.0 in
     let y = heading_last x c.loop-h-test.false in
     let are = x.heads_are in
     let up = x.h_low in
-    (i.0, f.fires, ruling_next y f, noting-next (noting_rule (noting-room c.loop-r.invariant.3.size_notes i.2) (let left = c.loop-h-test.false in omega arith) (omega (arith, heading_four x))) x.on x.here f)
+    (c.next_fire-next-in-Some.ensures.low, f.fires, ruling_next y f, noting-next (noting_rule (noting-room c.loop-next.invariant.3.size_notes i.1) (let left = c.loop-h-test.false in omega arith) (omega (arith, heading_four x))) x.on x.here f)
 
-pub search-preserved : goal.search-preserved
-search-preserved c =
-    let i = c.loop-r.invariant in
+pub loop-s-preserved : goal.loop-s-preserved
+loop-s-preserved c =
+    let i = rw c.in_default.is at c.loop-next.invariant in
     let l = i.2.s_low in
     let few = i.2.doing.kept.few in
-    (i.0, omega arith, i.2.ruled, ruling_last i.2 c.loop-r-test.false, noting-shape (noting-room c.search.invariant.4.size_notes i.3) i.2.r_low c.loop-r-test.false i.2.ruled.fits.few (omega arith))
+    (omega arith, i.2.ruled, ruling_last i.2 (omega arith), noting-shape (noting-room c.loop-s.invariant.3.size_notes i.3) i.2.r_low (omega arith) i.2.ruled.fits.few (omega arith))
 
-pub shape_of-notes-after-search : goal.shape_of-notes-after-search
-shape_of-notes-after-search c = c.search.invariant.4.size_notes
-
-pub returns-after-search : goal.returns-after-search
-returns-after-search c =
-    let i = c.search.invariant in (
-      record {
-        all = λ _. try_all i.2 _ c.search-test.false i.3;
-        more = λ e. let z : ◌≡◌ {A = ℕ} 0 1 = cc (i.0, e) in let y : ⊥ = omega arith in absurd y;
-      },
-      λ _. noting-all i.4 c.search-test.false c.requires.7,
-    )
-
-pub shape_of-notes-then-count-eq512 : goal.shape_of-notes-then-count-eq512
-shape_of-notes-then-count-eq512 c =
-    c.loop-h.invariant.2.size_notes ∙ c.loop-r.invariant.3.size_notes ∙ c.search.invariant.4.size_notes
+pub returns : goal.returns
+returns c =
+    let i = c.loop-s.invariant in (try_all i.1 _ c.loop-s-test.false i.2, noting-all i.3 c.loop-s-test.false c.requires.7)
 
 pub returns-then-count-eq512 : goal.returns-then-count-eq512
 returns-then-count-eq512 c =
-    let i = c.loop-h.invariant in (
-      record {
-        all = λ e. search rules;
-        more = λ _. heading_more i.1 _ c.made-code.ensures c.loop-h-test.true c.if-count-eq512.true c.if-index-code-eq0.true;
-      },
-      λ e. search rules,
-    )
+    (heading_more c.loop-h.invariant.0 _ c.made-code.ensures c.loop-h-test.true c.if-count-eq512.true c.if-index-code-eq0.true, tt)

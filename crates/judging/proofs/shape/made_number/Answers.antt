@@ -1,9 +1,8 @@
 -- `judging::shape::made_number` meets its contract: the first place of the mark tells a fresh number from a carried one. Assumes nothing.
-use mathlib.Core.Path.{◌∙◌}
 use native.Mathlib.Omega.{arith}
 use Rattle.rules.specs.Table.{row_bytes}
 use Rattle.rules.proofs.RuleLaws.{RowFits, row_fits, place_few}
-use Rattle.judging.proofs.RuleLaws.{fresh_number, carried_number}
+use Rattle.judging.proofs.RuleLaws.{fresh_number}
 use Rattle.judging.proofs.shape.made_number.Goals as goal
 use Rattle.judging.proofs.shape.made_number.Goals.{Start}
 
@@ -18,9 +17,3 @@ returns-then-place-eq0 c =
 pub bounds-digits-place : goal.bounds-digits-place
 bounds-digits-place c =
     omega (arith, place_few (row (goal.at.bounds-digits-place c).Start) c.args.mark c.rule_byte-place.result c.requires.2 c.rule_byte-place.ensures.0)
-
-pub returns : goal.returns
-returns c =
-    c.of_u8.ensures.0
-    ∙ carried_number (row (goal.at.returns c).Start) c.args.digits c.args.mark c.requires.2 c.rule_byte-place.result
-    c.rule_byte-place.ensures.0 c.if-place-eq0.false

@@ -4,32 +4,26 @@ use Prim.Native.Nat.{◌+◌, ◌-◌, ◌*◌, ◌<◌, ◌≤◌}
 use native.Mathlib.Omega.{arith}
 use Rattle.patterns.specs.Pattern.{numbers_pattern, pattern_says}
 use Rattle.judging.specs.Inner.Codes.{CodeIs}
-use Rattle.judging.proofs.CodeLaws.{code_is, not_refused}
+use Rattle.judging.proofs.CodeLaws.{code_is}
 use Rattle.judging.proofs.shape.shape_code.Goals as goal
-use Rattle.judging.proofs.shape.shape_code.Goals.{In-Number}
+use Rattle.judging.proofs.shape.shape_code.Goals.{In-Some}
 
 -- What the pattern's number makes.
-code : (c : In-Number)
-    → (278 * (c.args.kind - 1) + c.in-Number.n < 17793)
-    × (1 ≤ c.in-Number.n)
+code : (c : In-Some)
+    → (278 * (c.args.kind - 1) + c.in-Some.n < 17793)
+    × (1 ≤ c.in-Some.n)
     × CodeIs c.args.kind
     (numbers_pattern c.args.numbers.now)
-    (278 * (c.args.kind - 1) + c.in-Number.n - 1)
+    (278 * (c.args.kind - 1) + c.in-Some.n - 1)
 code c =
-    code_is c.args.kind c.in-Number.n c.args.numbers.now c.requires.0 c.requires.1 c.requires.2
-    (ap pattern_says (sym c.in-Number.is) ∙ c.pattern.ensures)
+    code_is c.args.kind c.in-Some.n c.args.numbers.now c.requires.0 c.requires.1 c.requires.2
+    (ap pattern_says (sym c.in-Some.is) ∙ c.pattern.ensures)
 
 pub overflow_add-result : goal.overflow_add-result
-overflow_add-result c = omega (arith, (code (goal.at.overflow_add-result c).In-Number).0)
+overflow_add-result c = omega (arith, (code (goal.at.overflow_add-result c).In-Some).0)
 
-pub overflow_sub-result-in-Number : goal.overflow_sub-result-in-Number
-overflow_sub-result-in-Number c = omega (arith, (code (goal.at.overflow_sub-result-in-Number c).In-Number).1)
+pub overflow_sub-result-in-Some : goal.overflow_sub-result-in-Some
+overflow_sub-result-in-Some c = omega (arith, (code (goal.at.overflow_sub-result-in-Some c).In-Some).1)
 
-pub returns-in-Number : goal.returns-in-Number
-returns-in-Number c = (code (goal.at.returns-in-Number c).In-Number).2
-
-pub returns-in-FieldCount : goal.returns-in-FieldCount
-returns-in-FieldCount c =
-    absurd
-    (not_refused c.args.numbers.now c.requires.1 c.requires.2
-    (ap pattern_says (sym c.in-FieldCount.is) ∙ c.pattern.ensures))
+pub returns-in-Some : goal.returns-in-Some
+returns-in-Some c = (code (goal.at.returns-in-Some c).In-Some).2

@@ -8,4 +8,4 @@ pub loop-p-preserved : goal.loop-p-preserved
 loop-p-preserved c =
     let b = c.rule_byte.ensures.0 in
     let i = c.loop-p.invariant in
-    (omega arith, among_same _ i.1 (omega arith) (λ z. absurd (c.if-rule_byte-eq1.false (b ∙ z))))
+    among_same _ i (omega arith) (λ z. absurd (c.if-rule_byte-eq1.false (b ∙ z)))

@@ -1,11 +1,7 @@
 -- `spread::best_source` meets its contract. Assumes nothing.
-use Prim.Native.Nat.{◌≤◌}
 use Rattle.rules.specs.Table.{row_bytes}
 use Rattle.judging.proofs.PassLaws.{Among}
 use Rattle.judging.proofs.spread.best_source.Given as goal
 
 abbrev pub invariant-loop-p : goal.invariant-loop-p
-invariant-loop-p l = (l.p ≤ 7) × Among (row_bytes l.table l.r) l.generations l.s l.p l.best l.most
-
-abbrev pub decreases-loop-p : goal.decreases-loop-p
-decreases-loop-p l = l.p
+invariant-loop-p l = Among (row_bytes l.table l.r) l.generations l.s l.p l.best l.most

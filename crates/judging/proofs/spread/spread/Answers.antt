@@ -15,19 +15,19 @@ returns-then-is_calm c =
 pub back-turning-requires : goal.back-turning-requires
 back-turning-requires c =
     let calm = not_calm c.sweep-last.result (sym c.is_calm.ensures ∙ c.if-is_calm.false) in
-    inside c.requires.0.table_fits c.requires.0.closed c.loop-waiting.invariant c.sweep-last.ensures (λ z. omega arith) c.node_of.ensures
+    inside c.requires.0.table_fits c.requires.0.closed c.loop-waiting.invariant c.sweep-last.ensures (λ z. omega arith) c.node.ensures
 
-pub returns-then-turns : goal.returns-then-turns
-returns-then-turns c =
+pub returns-then-is_some : goal.returns-then-is_some
+returns-then-is_some c =
     let calm = not_calm c.sweep-last.result (sym c.is_calm.ensures ∙ c.if-is_calm.false) in
-    endless c.requires.0.table_fits c.requires.0.closed c.loop-waiting.invariant c.sweep-last.ensures (λ z. omega arith) c.node_of.ensures c.back-turning.ensures
-    (some_turn c.back-turning.result (sym c.turns.ensures ∙ c.if-turns.true))
+    endless c.requires.0.table_fits c.requires.0.closed c.loop-waiting.invariant c.sweep-last.ensures (λ z. omega arith) c.node.ensures c.back-turning.ensures
+    (some_turn c.back-turning.result (sym c.is_some.ensures ∙ c.if-is_some.true))
 
 pub loop-waiting-smaller : goal.loop-waiting-smaller
 loop-waiting-smaller c =
     let calm = not_calm c.sweep-last.result (sym c.is_calm.ensures ∙ c.if-is_calm.false) in
-    let next = again c.requires.0.table_fits c.requires.0.closed c.loop-waiting.invariant c.sweep-last.ensures (λ z. omega arith) c.node_of.ensures c.back-turning.ensures
-    (no_turn c.back-turning.result (sym c.turns.ensures ∙ c.if-turns.false)) in
+    let next = again c.requires.0.table_fits c.requires.0.closed c.loop-waiting.invariant c.sweep-last.ensures (λ z. omega arith) c.node.ensures c.back-turning.ensures
+    (no_turn c.back-turning.result (sym c.is_some.ensures ∙ c.if-is_some.false)) in
     let h = height next.live in
     let m = c.sweep-last.ensures.more (omega arith) in
     omega arith
@@ -35,5 +35,5 @@ loop-waiting-smaller c =
 pub loop-waiting-preserved : goal.loop-waiting-preserved
 loop-waiting-preserved c =
     let calm = not_calm c.sweep-last.result (sym c.is_calm.ensures ∙ c.if-is_calm.false) in
-    again c.requires.0.table_fits c.requires.0.closed c.loop-waiting.invariant c.sweep-last.ensures (λ z. omega arith) c.node_of.ensures c.back-turning.ensures
-    (no_turn c.back-turning.result (sym c.turns.ensures ∙ c.if-turns.false))
+    again c.requires.0.table_fits c.requires.0.closed c.loop-waiting.invariant c.sweep-last.ensures (λ z. omega arith) c.node.ensures c.back-turning.ensures
+    (no_turn c.back-turning.result (sym c.is_some.ensures ∙ c.if-is_some.false))

@@ -7,8 +7,8 @@ use Rattle.judging.proofs.spread.spread.Given as goal
 
 abbrev pub invariant-loop-waiting : goal.invariant-loop-waiting
 invariant-loop-waiting l =
-    Round l.table l.rules l.shapes l.index l.count l.generations l.raises l.waiting
+    Round l.basis.table.now l.basis.rules l.basis.shapes.now l.basis.index.now l.basis.count l.generations l.raises l.waiting
 
 abbrev pub decreases-loop-waiting : goal.decreases-loop-waiting
 decreases-loop-waiting l =
-    7 * l.count * (7 * l.count) - sum_to (7 * l.count) (at l.generations)
+    7 * l.basis.count * (7 * l.basis.count) - sum_to (7 * l.basis.count) (at l.generations)

@@ -5,6 +5,3 @@ use Rattle.judging.proofs.trail.put_links.Given as goal
 
 abbrev pub invariant-loop-left : goal.invariant-loop-left
 invariant-loop-left l = PuttingLine l.initial.steps l.first l.k (from_of l.raises) (link_of l.raises) l.x l.steps l.y l.left
-
-abbrev pub decreases-loop-left : goal.decreases-loop-left
-decreases-loop-left l = l.left

@@ -4,6 +4,3 @@ use Rattle.judging.proofs.trail.put_way.Given as goal
 
 abbrev pub invariant-loop-at : goal.invariant-loop-at
 invariant-loop-at l = PuttingWay l.initial.steps l.ways l.count l.s l.k l.steps l.x l.at
-
-abbrev pub decreases-loop-at : goal.decreases-loop-at
-decreases-loop-at l = l.at

@@ -2,11 +2,8 @@
 use mathlib.Core.Path.{◌∙◌}
 use Prim.Native.Nat.{◌+◌}
 use native.Mathlib.Omega.{arith}
-use Rattle.rules.proofs.PartLaws.{heads_none, heads_done, heads_blank, heads_places, heads_put, heads_each, heads_few}
+use Rattle.rules.proofs.PartLaws.{heads_blank, heads_places, heads_put, heads_each, heads_few}
 use Rattle.rules.proofs.table.put_heads.Goals as goal
-
-pub loop-h-init : goal.loop-h-init
-loop-h-init c = (omega arith, heads_none _ _ _ _ c.requires.5)
 
 pub put_line-count-requires : goal.put_line-count-requires
 put_line-count-requires c =
@@ -37,8 +34,3 @@ loop-h-preserved c =
     let t = c.loop-h-test.true in
     let few = heads_few c.args.lines.now c.args.n c.args.heads c.requires.3 in
     (omega arith, heads_put l.invariant.1 c.put_line-count.ensures.1 (omega arith) (heads_each c.args.lines.now c.args.heads (c.args.n + 1) l.h c.requires.3.heads t).marks c.put_sources.ensures)
-
-pub returns : goal.returns
-returns c =
-    let l = c.loop-h.invariant in
-    heads_done l.1 l.0 c.loop-h-test.false

@@ -1,31 +1,35 @@
 -- `rules::table::put_marks` puts the marks of a line. The invariant: the marks passed are put. Assumes nothing.
+use mathlib.Core.Path.{◌≡◌, sym, subst, ◌∙◌}
+use mathlib.Core.List.{List}
+use Prim.Native.Nat.{ℕ, ◌+◌, ◌-◌, ◌*◌, ◌<◌}
 use native.Mathlib.Omega.{arith}
-use Rattle.rules.proofs.PartLaws.{marking_none, marking_done, marking_stop, marking_small, marking_more}
+use lib.ListN.{length, get_or, take, drop, set, length-drop}
+use lib.Seq.{length-take-le, get_or-take, get_or-drop}
+use Rattle.rules.specs.Inner.Bytes.{LineIn}
+use Rattle.rules.proofs.PartLaws.{Marking, marking_more}
 use Rattle.rules.proofs.table.put_marks.Goals as goal
 
-pub loop-i-init : goal.loop-i-init
-loop-i-init c = marking_none _ _ _ _
+-- The numbers of line n after its kind: there are six.
+abbrev six : List ℕ → ℕ → List ℕ
+six numbers n = take (8 * n + 8 - (8 * n + 2)) (drop (8 * n + 2) numbers)
 
-pub returns-then-mark-eq0 : goal.returns-then-mark-eq0
-returns-then-mark-eq0 c =
-    let s = c.requires in
-    marking_stop c.loop-i.invariant s.2 c.loop-i-test.true s.4 c.if-mark-eq0.true
+six_long : (numbers : List ℕ) (n : ℕ) → LineIn numbers n → length (six numbers n) ≡ 6
+six_long numbers n h =
+    let l = length-drop (8 * n + 2) numbers in
+    length-take-le (8 * n + 8 - (8 * n + 2)) (drop (8 * n + 2) numbers) (omega arith) ∙ omega arith
 
-pub overflow_cast-table : goal.overflow_cast-table
-overflow_cast-table c =
-    let s = c.requires in
-    omega (arith, marking_small c.loop-i.invariant s.2 c.loop-i-test.true c.if-mark-eq0.false s.3)
+six_here : (numbers : List ℕ) (n : ℕ) {i : ℕ} → LineIn numbers n → i < length (six numbers n) → i < 6
+six_here numbers n h l = omega (arith, six_long numbers n h)
 
-pub bounds-table-at : goal.bounds-table-at
-bounds-table-at c =
-    let w = c.loop-i.invariant.put.whole in
-    omega arith
+six_at : (numbers : List ℕ) (n : ℕ) {i : ℕ} → LineIn numbers n → i < length (six numbers n) → get_or (six numbers n) i 0 ≡ get_or numbers (8 * n + 2 + i) 0
+six_at numbers n {i} h l =
+    get_or-take (8 * n + 8 - (8 * n + 2)) (drop (8 * n + 2) numbers) i 0 (omega (arith, six_long numbers n h)) ∙ get_or-drop (8 * n + 2) numbers i 0
 
 pub loop-i-preserved : goal.loop-i-preserved
 loop-i-preserved c =
     let s = c.requires in
     let size = s.0 in
-    marking_more c.loop-i.invariant s.2 c.loop-i-test.true c.if-mark-eq0.false (omega arith)
-
-pub returns : goal.returns
-returns c = marking_done c.loop-i.invariant c.requires.4 c.loop-i-test.false
+    let t = c.loop-i-test.true in
+    let l = c.loop-i in
+    subst (λ (x : ℕ). Marking c.args.table.now c.args.at c.args.lines.now c.args.n (l.i + 1) (set l.table (c.args.at + l.i) x)) (sym (six_at _ _ s.2 t))
+    (marking_more l.invariant s.2 (six_here _ _ s.2 t) (λ e. c.if-mark-eq0.false (six_at _ _ s.2 t ∙ e)) (omega arith))

@@ -5,6 +5,3 @@ use Rattle.rules.proofs.table.put_places.Given as goal
 
 abbrev pub invariant-loop-i : goal.invariant-loop-i
 invariant-loop-i l = Placing l.initial.table l.at (marks_at l.lines l.n) l.i l.table
-
-abbrev pub decreases-loop-i : goal.decreases-loop-i
-decreases-loop-i l = l.i

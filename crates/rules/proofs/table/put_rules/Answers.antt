@@ -1,31 +1,28 @@
 -- `rules::table::put_rules` fills the table. The invariant: the rules of the lines passed are in it. Assumes nothing.
 use mathlib.Core.Path.{subst₂, sym}
-use mathlib.Core.Logic.{⊎_elim}
 use mathlib.Core.List.{List}
-use Prim.Native.Nat.{ℕ, ◌+◌}
+use Prim.Native.Nat.{ℕ, ◌+◌, ◌*◌, ◌/◌, ◌<◌}
 use native.Mathlib.Omega.{arith}
-use Rattle.rules.proofs.TableLaws.{Filled, filled_none, filled_inside, filled_end, filled_other, filled_room, filled_asks, filled_rule, rule-here}
+use Rattle.rules.proofs.TableLaws.{Filled, filled_end, filled_other, filled_room, filled_asks, filled_rule, rule-here}
 use Rattle.rules.proofs.table.put_rules.Goals as goal
 use Rattle.rules.proofs.table.put_rules.Goals.{then-lines-n-eq-LETTER_B, else-lines-n-eq-LETTER_B}
 
-pub loop-n-init : goal.loop-n-init
-loop-n-init c = filled_none _ _ c.requires.1 c.requires.2
-
-pub overflow_mul-n : goal.overflow_mul-n
-overflow_mul-n c = omega (arith, filled_inside c.requires.0 c.loop-n.invariant)
+-- Line n is within the lent numbers.
+inside : {n size : ℕ} → n < size / 8 → 8 * n < size
+inside h = omega arith
 
 pub heads_at-heads-requires : goal.heads_at-heads-requires
 heads_at-heads-requires c =
-    (c.requires.0, (rule-here c.requires.0 _ c.loop-n-test.true c.if-lines-n-eq-LETTER_B.true).next)
+    (c.requires.0, (rule-here c.requires.0 c.loop-n.n (inside c.loop-n-test.true) c.if-lines-n-eq-LETTER_B.true).next)
 
 pub put_rule-requires : goal.put_rule-requires
 put_rule-requires c =
     filled_asks c.requires.0 c.loop-n.invariant
-    c.loop-n-test.true c.if-lines-n-eq-LETTER_B.true c.heads_at-heads.ensures
+    (inside c.loop-n-test.true) c.if-lines-n-eq-LETTER_B.true c.heads_at-heads.ensures
 
 pub overflow_add-count : goal.overflow_add-count
 overflow_add-count c =
-    let room = filled_room c.requires.0 c.loop-n.invariant c.loop-n-test.true c.if-lines-n-eq-LETTER_B.true in
+    let room = filled_room c.requires.0 c.loop-n.invariant (inside c.loop-n-test.true) c.if-lines-n-eq-LETTER_B.true in
     omega arith
 
 pub loop-n-preserved : goal.loop-n-preserved
@@ -35,9 +32,9 @@ loop-n-preserved c =
     elim c.if-lines-n-eq-LETTER_B.branch [
       | then-lines-n-eq-LETTER_B w ↦
           subst₂ next (sym w.table-is) (sym w.count-is)
-          (filled_rule c.requires.0 l.invariant c.loop-n-test.true w.if-lines-n-eq-LETTER_B.true w.heads_at-heads.ensures w.put_rule.ensures)
+          (filled_rule c.requires.0 l.invariant (inside c.loop-n-test.true) w.if-lines-n-eq-LETTER_B.true w.heads_at-heads.ensures w.put_rule.ensures)
       | else-lines-n-eq-LETTER_B w ↦
-          subst₂ next (sym w.table-is) (sym w.count-is) (filled_other c.requires.0 l.invariant c.loop-n-test.true w.if-lines-n-eq-LETTER_B.false)
+          subst₂ next (sym w.table-is) (sym w.count-is) (filled_other c.requires.0 l.invariant (inside c.loop-n-test.true) w.if-lines-n-eq-LETTER_B.false)
     ]
 
 pub returns : goal.returns

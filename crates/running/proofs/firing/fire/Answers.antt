@@ -38,35 +38,42 @@ pub made-row-requires : goal.made-row-requires
 made-row-requires c =
     (now-in (goal.at.made-row-requires c).In-loop-h, c.requires.2, there (goal.at.made-row-requires c).In-loop-h, c.requires.3, now-fires (goal.at.made-row-requires c).In-loop-h)
 
-pub add-n-requires : goal.add-n-requires
-add-n-requires c =
+pub add-requires : goal.add-requires
+add-requires c =
     let loop = c.loop-h in
     let m = made-packed (row_made c.args.c.next (rule_at c.args.table.now c.args.r) (row_no loop.rows c.args.i) (head_no (row_bytes c.args.table.now c.args.r) loop.h))
-    c.made-row.ensures (narrow (goal.at.add-n-requires c).In-loop-h) in
+    c.made-row.ensures (narrow (goal.at.add-requires c).In-loop-h) in
     (loop.invariant.2.stored loop.invariant.1, m.0, m.1)
 
-pub returns-then-n-gt4096 : goal.returns-then-n-gt4096
-returns-then-n-gt4096 c =
+pub returns-in_err-n : goal.returns-in_err-n
+returns-in_err-n c =
     let rule = rule_at c.args.table.now c.args.r in
     let rows = rows_at c.args.rows.now c.args.c.rows in
-    grown_over_whole (with_made c.args.c.next rule (row_no c.args.rows.now c.args.i) rows)
-    (grown_head c.requires.2 c.args.c.next c.args.i c.requires.4 c.requires.1 c.loop-h.invariant.1 c.loop-h.invariant.2 (there (goal.at.returns-then-n-gt4096 c).In-loop-h) c.made-row.ensures
-    c.add-n.ensures (c.requires.0.each c.args.i c.requires.1)) c.if-n-gt4096.true
-    (made_whole (row_made c.args.c.next rule (row_no c.args.rows.now c.args.i)) rule.heads (c.loop-h.h + 1) rows)
+    let over = c.in_err-n.ensures in
+    rw c.from_residual.ensures (
+      over.0,
+      over.1,
+      grown_over_whole (with_made c.args.c.next rule (row_no c.args.rows.now c.args.i) rows)
+          (grown_head c.requires.2 c.args.c.next c.args.i c.requires.4 c.requires.1 c.loop-h.invariant.1 c.loop-h.invariant.2 (there (goal.at.returns-in_err-n c).In-loop-h) c.made-row.ensures
+          over.2 (c.requires.0.each c.args.i c.requires.1)) over.1
+          (made_whole (row_made c.args.c.next rule (row_no c.args.rows.now c.args.i)) rule.heads (c.loop-h.h + 1) rows),
+    )
 
 pub loop-h-preserved : goal.loop-h-preserved
 loop-h-preserved c = (
   omega (arith, c.loop-h-test.true),
-  c.if-n-gt4096.false,
+  c.in_ok-n.ensures.0,
   grown_head c.requires.2 c.args.c.next c.args.i c.requires.4 c.requires.1 c.loop-h.invariant.1 c.loop-h.invariant.2 (there (goal.at.loop-h-preserved c).In-loop-h) c.made-row.ensures
-      c.add-n.ensures (c.requires.0.each c.args.i c.requires.1),
+      c.in_ok-n.ensures.1 (c.requires.0.each c.args.i c.requires.1),
 )
 
 pub returns : goal.returns
 returns c =
     let rule = rule_at c.args.table.now c.args.r in
     let rows = rows_at c.args.rows.now c.args.c.rows in
-    let row = ready_row c.requires.2 in
-    grown_as (with_made c.args.c.next rule (row_no c.args.rows.now c.args.i) rows) c.loop-h.invariant.2
-    (made_all (row_made c.args.c.next rule (row_no c.args.rows.now c.args.i)) rule.heads c.loop-h.h rows
-    (omega (arith, head-count (row_bytes c.args.table.now c.args.r) row.size row.fits, c.rule_byte-heads.ensures.0, c.loop-h-test.false)))
+    let row = ready_row c.requires.2 in (
+      c.loop-h.invariant.1,
+      grown_as (with_made c.args.c.next rule (row_no c.args.rows.now c.args.i) rows) c.loop-h.invariant.2
+          (made_all (row_made c.args.c.next rule (row_no c.args.rows.now c.args.i)) rule.heads c.loop-h.h rows
+          (omega (arith, head-count (row_bytes c.args.table.now c.args.r) row.size row.fits, c.rule_byte-heads.ensures.0, c.loop-h-test.false))),
+    )

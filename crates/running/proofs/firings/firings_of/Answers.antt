@@ -1,12 +1,13 @@
 -- `firings_of` meets its contract: the pairs that are noted are those of the rule on the records passed. Assumes nothing.
-use mathlib.Core.Path.{sym, ◌∙◌, subst}
+use mathlib.Core.Path.{sym, ◌∙◌, subst, ap}
+use mathlib.Core.Bool.{not}
 use native.Mathlib.Omega.{arith}
 use Rattle.rules.specs.Inner.Tests.{Decides}
 use Rattle.carrying.specs.Carrying.{FiresOn}
 use Rattle.running.specs.Inner.Firing.{rule_at, row_no}
 use Rattle.running.proofs.CountLaws.{counting_begun, counting_record, counting_idle, counting_records, counting_bucket, counting_room, counting_there, counting_new, counting_as, counting_done}
 use Rattle.running.proofs.firings.firings_of.Goals as goal
-use Rattle.running.proofs.firings.firings_of.Goals.{Then-fires, then-fires+then-find-n, then-fires+else-find-n, else-fires}
+use Rattle.running.proofs.firings.firings_of.Goals.{Then-fires, then-fires+then-is_none, then-fires+else-is_none, else-fires}
 
 fires : (c : Then-fires) → FiresOn (rule_at c.args.table.now c.args.r) (row_no c.args.rows.now c.loop-i.i)
 fires c =
@@ -53,12 +54,12 @@ loop-i-preserved c =
     let k = c.loop-i.invariant in
     let more = c.loop-i-test.true in
     elim c.if-fires.branch [
-      | then-fires+then-find-n w ↦
+      | then-fires+then-is_none w ↦
           counting_as
-          (counting_new k more c.requires.2 c.requires.3 (subst (Decides (FiresOn (rule_at a.table.now a.r) (row_no a.rows.now c.loop-i.i))) w.if-fires.true c.fires.ensures) w.find.result w.find.ensures w.if-find-n.true w.bucket-b.result w.bucket-b.ensures.1 w.bucket-b.ensures.0)
+          (counting_new k more c.requires.2 c.requires.3 (subst (Decides (FiresOn (rule_at a.table.now a.r) (row_no a.rows.now c.loop-i.i))) w.if-fires.true c.fires.ensures) w.find.result w.find.ensures (w.is_none.ensures ∙ ap not w.if-is_none.true) w.bucket-b.result w.bucket-b.ensures.1 w.bucket-b.ensures.0)
           (w.index-is ∙ w.note.ensures) w.n-is
-      | then-fires+else-find-n w ↦
-          counting_as (counting_there k more c.requires.2 c.requires.3 (subst (Decides (FiresOn (rule_at a.table.now a.r) (row_no a.rows.now c.loop-i.i))) w.if-fires.true c.fires.ensures) w.find.result w.find.ensures w.if-find-n.false) w.index-is w.n-is
+      | then-fires+else-is_none w ↦
+          counting_as (counting_there k more c.requires.2 c.requires.3 (subst (Decides (FiresOn (rule_at a.table.now a.r) (row_no a.rows.now c.loop-i.i))) w.if-fires.true c.fires.ensures) w.find.result w.find.ensures (w.is_none.ensures ∙ ap not w.if-is_none.false)) w.index-is w.n-is
       | else-fires w ↦ counting_as (counting_idle k more (subst (Decides (FiresOn (rule_at a.table.now a.r) (row_no a.rows.now c.loop-i.i))) w.if-fires.false c.fires.ensures)) w.index-is w.n-is
     ]
 

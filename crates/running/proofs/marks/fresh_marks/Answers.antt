@@ -66,7 +66,7 @@ pub bounds-fresh-r-in-loop-r : goal.bounds-fresh-r-in-loop-r
 bounds-fresh-r-in-loop-r c = let f = room (goal.at.bounds-fresh-r-in-loop-r c).After-top_heads in let s = c.loop-r.invariant.size in search rules
 
 pub overflow_cast-fresh-in-loop-r-2 : goal.overflow_cast-fresh-in-loop-r-2
-overflow_cast-fresh-in-loop-r-2 c = omega (arith, (few (goal.at.overflow_cast-fresh-in-loop-r-2 c).After-top_heads).1, c.requires.2, c.larger.ensures)
+overflow_cast-fresh-in-loop-r-2 c = omega (arith, (few (goal.at.overflow_cast-fresh-in-loop-r-2 c).After-top_heads).1, c.requires.2, c.max.ensures)
 
 pub overflow_add-fresh-in-loop-r : goal.overflow_add-fresh-in-loop-r
 overflow_add-fresh-in-loop-r c = let f = room (goal.at.overflow_add-fresh-in-loop-r c).After-top_heads in search rules
@@ -90,8 +90,8 @@ bounds-fresh-r-in-loop-r-3 c = let f = room (goal.at.bounds-fresh-r-in-loop-r-3 
 
 pub loop-r-preserved : goal.loop-r-preserved
 loop-r-preserved c =
-    prepared_more c.loop-r.invariant (room (goal.at.loop-r-preserved c).After-top_heads) c.top-low.result (c.top_heads.result - c.top-low.result) c.larger.result c.rule_byte-in-loop-r.result
-    (low (goal.at.loop-r-preserved c).After-top_heads) (omega (arith, all (goal.at.loop-r-preserved c).After-top_heads, low (goal.at.loop-r-preserved c).After-top_heads)) c.larger.ensures
+    prepared_more c.loop-r.invariant (room (goal.at.loop-r-preserved c).After-top_heads) c.top-low.result (c.top_heads.result - c.top-low.result) c.max.result c.rule_byte-in-loop-r.result
+    (low (goal.at.loop-r-preserved c).After-top_heads) (omega (arith, all (goal.at.loop-r-preserved c).After-top_heads, low (goal.at.loop-r-preserved c).After-top_heads)) c.max.ensures
     (c.rule_byte-in-loop-r.ensures.0 ∙ rule_kind (row_bytes c.args.table.now c.loop-r.r))
 
 pub returns : goal.returns

@@ -1,22 +1,26 @@
 -- `running::marks::top` meets its contract. The invariant: the largest of the marks so far. Assumes nothing.
-use mathlib.Core.Path.{◌≡◌}
+use mathlib.Core.Path.{◌≡◌, sym, ap, ◌∙◌}
+use Prim.Native.Nat.{ℕ, ◌+◌, ◌*◌, ◌-◌, ◌<◌}
 use native.Mathlib.Omega.{arith}
-use borrow.Author.Rules.{rules}
+use lib.ListN.{length, get_or, take, drop, length-take}
+use lib.Seq.{get_or-take, get_or-drop}
 use Rattle.rules.specs.Table.{row_bytes}
-use Rattle.rules.proofs.TableLaws.{row_size}
+use Rattle.rules.proofs.TableLaws.{row_size, row_at}
 use Rattle.running.proofs.MarkLaws.{top_more}
 use Rattle.running.proofs.marks.top.Goals as goal
-use Rattle.running.proofs.marks.top.Goals.{then-t-mark, else-t-mark}
 
-pub loop-k-preserved : goal.loop-k-preserved
-loop-k-preserved c =
+pub loop-mark-preserved : goal.loop-mark-preserved
+loop-mark-preserved c =
+    let a = c.args in
+    let l = c.loop-mark in
     let (size, low, fits) = c.requires in
-    let l = top_more (row_bytes c.args.table.now c.args.r) c.args.at c.args.m _ _ _
-    (omega (arith, row_size c.args.table.now c.args.r size low, fits, c.loop-k-test.true)) c.loop-k.invariant.1 c.rule_byte-mark.ensures.0 in
-    (search rules, elim c.if-t-mark.branch [ then-t-mark w ↦ omega (arith, l) | else-t-mark w ↦ omega (arith, l) ])
-
-pub returns : goal.returns
-returns c =
-    let k = c.loop-k in
-    let e : k.k ≡ c.args.count = omega (arith, k.invariant.0, c.loop-k-test.false) in
-    rw (← e) k.invariant.1
+    let from = 64 * a.r + a.at in
+    let wide = from + a.count - from in
+    let here = drop from a.table.now in
+    let inside : l.mark-index < length (take wide here) = c.loop-mark-test.true in
+    let few : l.mark-index < wide = omega (arith, length-take wide here) in
+    let is : get_or (take wide here) l.mark-index 0 ≡ get_or (row_bytes a.table.now a.r) (a.at + l.mark-index) 0 =
+    get_or-take wide here l.mark-index 0 few ∙ get_or-drop from a.table.now l.mark-index 0
+    ∙ ap (λ (i : ℕ). get_or a.table.now i 0) (omega arith) ∙ sym (row_at a.table.now a.r (a.at + l.mark-index) (omega arith)) in
+    let more = top_more (row_bytes a.table.now a.r) a.at a.m l.t l.mark-index _ (omega (arith, row_size a.table.now a.r size low)) l.invariant is in
+    omega (arith, c.max-t.ensures, more)

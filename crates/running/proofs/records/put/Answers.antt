@@ -1,20 +1,15 @@
--- `put` meets its contract. The invariant: so many numbers of the row are put. Assumes nothing.
-use mathlib.Core.Path.{◌≡◌, refl, subst}
-use Prim.Native.Nat.{ℕ, ◌*◌}
+-- `put` meets its contract: the copied numbers are the row's. Assumes nothing.
+use mathlib.Core.Path.{ap, ◌∙◌}
+use mathlib.Core.List.{List}
+use Prim.Native.Nat.{ℕ, ◌+◌, ◌-◌, ◌*◌}
 use native.Mathlib.Omega.{arith}
-use borrow.Author.Rules.{rules}
-use lib.ListN.{get_or}
-use Rattle.rules.specs.Inner.Bytes.{Part}
-use Rattle.rules.proofs.PartLaws.{part_none, part_more}
+use lib.ListN.{length, get_or}
+use Rattle.running.proofs.RecordLaws.{part_put}
 use Rattle.running.proofs.records.put.Goals as goal
-
-pub loop-k-init : goal.loop-k-init
-loop-k-init c = (omega arith, part_none _ _ _)
-
-pub loop-k-preserved : goal.loop-k-preserved
-loop-k-preserved c = (search rules, part_more c.loop-k.invariant.1 (omega arith) refl)
 
 pub returns : goal.returns
 returns c =
-    let e : c.loop-k.k ≡ 7 = omega arith in
-    subst (λ (n : ℕ). Part c.args.rows.now (7 * c.args.i) n (λ (j : ℕ). get_or c.args.row.now j 0) c.loop-k.rows) e c.loop-k.invariant.1
+    let a = c.args in
+    let is = c.copy_from_slice.ensures.after in
+    part_put a.rows.now c.copy_from_slice.new.self (7 * a.i) (7 * a.i + 7 - 7 * a.i) 7 (λ (k : ℕ). get_or a.row.now k 0) (omega arith) (omega arith) (ap length is ∙ c.requires.2)
+    (λ k h. ap (λ (l : List ℕ). get_or l k 0) is)

@@ -1,11 +1,8 @@
 -- `running::rows::row_at` meets its contract. The invariant: the first numbers stand there, each 0 as the next number, and the rest is as it was. Assumes nothing.
-use Prim.Native.Nat.{◌-◌, ◌≤◌}
-use Rattle.rules.specs.Inner.Rows.{row_numbers}
+use Prim.Native.Nat.{◌≤◌}
+use lib.ListN.{take, drop}
 use Rattle.running.proofs.FillLaws.{Filling}
 use Rattle.running.proofs.rows.row_at.Given as goal
 
 abbrev pub invariant-loop-k : goal.invariant-loop-k
-invariant-loop-k l = (l.k ≤ l.width) × Filling (row_numbers l.lines l.n l.width) l.next l.initial.row l.k l.given l.row
-
-abbrev pub decreases-loop-k : goal.decreases-loop-k
-decreases-loop-k l = l.width - l.k
+invariant-loop-k l = (l.k ≤ l.width) × Filling (take l.width (drop 2 l.line)) l.next l.initial.row l.k l.given l.row

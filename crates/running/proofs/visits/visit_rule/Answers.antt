@@ -5,7 +5,7 @@ use Rattle.carrying.specs.Carrying.{FiresOn}
 use Rattle.running.specs.Inner.Firing.{rule_at, row_no}
 use Rattle.running.proofs.FiringLaws.{stored_record}
 use Rattle.running.specs.Inner.Visits.{keep_in}
-use Rattle.running.proofs.VisitLaws.{left_fires, left_idle}
+use Rattle.running.proofs.VisitLaws.{over_as, left_fires, left_idle}
 use Rattle.running.proofs.visits.visit_rule.Goals as goal
 
 pub fires-requires : goal.fires-requires
@@ -18,8 +18,8 @@ fire_rule-requires c =
 
 pub returns-then-fires : goal.returns-then-fires
 returns-then-fires c =
-    left_fires c.requires.0 (keep_in c.args.fresh.now c.args.r) c.args.r c.args.i (subst (Decides (FiresOn (rule_at c.args.table.now c.args.r) (row_no c.args.rows.now c.args.i))) c.if-fires.true c.fires.ensures) c.fire_rule.ensures
+    over_as c.fire_rule.result (λ d l. left_fires c.requires.0 (keep_in c.args.fresh.now c.args.r) c.args.r c.args.i (subst (Decides (FiresOn (rule_at c.args.table.now c.args.r) (row_no c.args.rows.now c.args.i))) c.if-fires.true c.fires.ensures) l) c.fire_rule.ensures
 
 pub returns : goal.returns
 returns c =
-    left_idle c.requires.0 (keep_in c.args.fresh.now c.args.r) c.args.r c.args.i (subst (Decides (FiresOn (rule_at c.args.table.now c.args.r) (row_no c.args.rows.now c.args.i))) c.if-fires.false c.fires.ensures)
+    (c.requires.0.stored.few, left_idle c.requires.0 (keep_in c.args.fresh.now c.args.r) c.args.r c.args.i (subst (Decides (FiresOn (rule_at c.args.table.now c.args.r) (row_no c.args.rows.now c.args.i))) c.if-fires.false c.fires.ensures))

@@ -1,35 +1,38 @@
--- `lent::fill_text` meets its contract. The text of the lines so far stands at the front, and the rest is as before. Assumes nothing.
-use mathlib.Core.Path.{refl, sym, subst}
-use mathlib.Core.List.{List}
-use Prim.Native.Nat.{ℕ, ◌+◌, ◌*◌}
-use native.Mathlib.Omega.{arith}
-use lib.ListN.{replicate}
+-- `sheet::lent::fill_text` meets its contract. The text of the lines so far stands at the front, and the rest is as before. Assumes nothing.
+use Rattle.std.proofs.Common.{[], get_or, replicate, refl, arith}
 use Rattle.sheet.proofs.OrderLaws.{no_width}
-use Rattle.sheet.proofs.Filling.{Fills, Putting, fill-begun, fill_eight, fill-line, fill_long, fill_end}
+use Rattle.sheet.proofs.LentLines.{Eight, eight_at}
+use Rattle.sheet.proofs.Filling.{Putting, fill-begun, fill-line, fill_end}
 use Rattle.sheet.proofs.lent.fill_text.Goals as goal
-use Rattle.sheet.proofs.lent.fill_text.Goals.{After-used-fields}
+use Rattle.sheet.proofs.lent.fill_text.Goals.{In-loop-numbers, After-used-fields}
 
-putting :
-    (u : After-used-fields)
-    → Putting u.args.lines.now u.args.text.now u.loop-n.text u.loop-n.widths
-    u.loop-n.at u.loop-n.n u.numbers_at-numbers.result u.used-fields.result
+eight : (l : In-loop-numbers) → Eight l.args.lines.now l.loop-numbers.numbers-index (get_or l.as_chunks.result.0.now l.loop-numbers.numbers-index [])
+eight l = eight_at l.args.lines.now l.as_chunks.result.0.now l.as_chunks.ensures.front l.as_chunks.ensures.front_len l.loop-numbers.numbers-index l.loop-numbers-test.true
+
+putting : (u : After-used-fields)
+    → Putting u.args.lines.now u.args.text.now u.loop-numbers.text u.loop-numbers.widths u.loop-numbers.at u.loop-numbers.numbers-index
+    (get_or u.as_chunks.result.0.now u.loop-numbers.numbers-index []) u.used-fields.result
 putting u =
-    fill-line u.args.lines.now u.args.text.now u.loop-n.text u.loop-n.widths u.loop-n.at u.loop-n.n u.loop-n.invariant
-    u.loop-n-test.true u.numbers_at-numbers.result u.numbers_at-numbers.ensures u.used-fields.result u.used-fields.ensures
+    let e = eight_at u.args.lines.now u.as_chunks.result.0.now u.as_chunks.ensures.front u.as_chunks.ensures.front_len u.loop-numbers.numbers-index u.loop-numbers-test.true in
+    fill-line u.loop-numbers.invariant
+    (let room = e.room in omega arith) _ e.is u.used-fields.result u.used-fields.ensures
 
-pub loop-n-init : goal.loop-n-init
-loop-n-init c =
-    fill-begun c.args.lines.now c.args.text.now (replicate 65 0) c.requires refl (no_width 65)
+pub loop-numbers-init : goal.loop-numbers-init
+loop-numbers-init c = fill-begun c.args.lines.now c.args.text.now (replicate 65 0) c.requires refl (no_width 65)
 
-pub numbers_at-numbers-requires : goal.numbers_at-numbers-requires
-numbers_at-numbers-requires c =
-    fill_eight c.args.lines.now c.args.text.now c.loop-n.text c.loop-n.widths c.loop-n.at c.loop-n.n c.loop-n.invariant c.loop-n-test.true
+pub used-fields-requires : goal.used-fields-requires
+used-fields-requires c = (c.loop-numbers.invariant.table.size, (eight (goal.at.used-fields-requires c).In-loop-numbers).size)
 
 pub put_line-requires : goal.put_line-requires
-put_line-requires c = let p = putting (goal.at.put_line-requires c).After-used-fields in (p.few, p.room, p.letter, p.ranges)
+put_line-requires c =
+    let here = goal.at.put_line-requires c in
+    let p = putting here.After-used-fields in
+    (p.few, p.room, p.letter, p.ranges, (eight here.In-loop-numbers).size)
 
 pub declare-requires : goal.declare-requires
-declare-requires c = (c.loop-n.invariant.table.size, (putting (goal.at.declare-requires c).After-used-fields).declares)
+declare-requires c =
+    let here = goal.at.declare-requires c in
+    (c.loop-numbers.invariant.table.size, (putting here.After-used-fields).declares, (eight here.In-loop-numbers).size)
 
 pub overflow_mul-at : goal.overflow_mul-at
 overflow_mul-at c = let p = putting (goal.at.overflow_mul-at c).After-used-fields in omega (arith, p.few)
@@ -37,22 +40,15 @@ overflow_mul-at c = let p = putting (goal.at.overflow_mul-at c).After-used-field
 pub overflow_add-at : goal.overflow_add-at
 overflow_add-at c = let p = putting (goal.at.overflow_add-at c).After-used-fields in omega (arith, p.few)
 
-pub overflow_add-at-in-loop-n : goal.overflow_add-at-in-loop-n
-overflow_add-at-in-loop-n c =
-    let p = putting (goal.at.overflow_add-at-in-loop-n c).After-used-fields in
-    let e = fill_long c.args.lines.now c.args.text.now c.loop-n.text c.loop-n.widths c.loop-n.at c.loop-n.n c.loop-n.invariant in
+pub overflow_add-at-in-loop-numbers : goal.overflow_add-at-in-loop-numbers
+overflow_add-at-in-loop-numbers c =
+    let p = putting (goal.at.overflow_add-at-in-loop-numbers c).After-used-fields in
     omega (arith, p.room, c.requires)
 
-pub loop-n-preserved : goal.loop-n-preserved
-loop-n-preserved c =
-    subst
-    (λ (w : List ℕ). Fills c.args.lines.now c.args.text.now c.put_line.new.text w (c.loop-n.at + (9 * c.used-fields.result + 11)) (c.loop-n.n + 1))
-    (sym c.declare.ensures) ((putting (goal.at.loop-n-preserved c).After-used-fields).next c.put_line.new.text c.put_line.ensures)
-
-pub shape_of-text : goal.shape_of-text
-shape_of-text c =
-    fill_long c.args.lines.now c.args.text.now c.loop-n.text c.loop-n.widths c.loop-n.at c.loop-n.n c.loop-n.invariant
+pub loop-numbers-preserved : goal.loop-numbers-preserved
+loop-numbers-preserved c =
+    rw c.declare.ensures ((putting (goal.at.loop-numbers-preserved c).After-used-fields).next c.put_line.new.text c.put_line.ensures)
 
 pub returns : goal.returns
 returns c =
-    fill_end c.args.lines.now c.args.text.now c.loop-n.text c.loop-n.widths c.loop-n.at c.loop-n.n c.loop-n.invariant c.loop-n-test.false
+    fill_end c.loop-numbers.invariant (omega (arith, c.as_chunks.ensures.front_len, c.loop-numbers-test.false))

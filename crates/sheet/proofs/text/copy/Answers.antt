@@ -1,4 +1,4 @@
--- `sheet::text::copy` meets its contract. The loop's invariant: the first i numbers are copied. The measure is how many are left. Assumes nothing.
+-- `sheet::text::copy` meets its contract. The loop's invariant: the first i numbers are copied. Assumes nothing.
 use mathlib.Core.Path.{◌≡◌, refl}
 use Prim.Native.Nat.{ℕ, ◌<◌}
 use native.Mathlib.Nat.{zero-add}

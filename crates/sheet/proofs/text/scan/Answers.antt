@@ -1,82 +1,55 @@
 -- `sheet::text::scan` meets its contract. The loop's invariant is `Reading`: the lines so far are right and their numbers put. Each turn and each return is one of its laws.
 -- The measure is the text's length less the lines so far. Assumes nothing.
-use mathlib.Core.Path.{◌≡◌, refl}
-use Prim.Native.Nat.{◌+◌, ◌≤◌}
-use borrow.Author.Rules.{rules}
-use native.Mathlib.Omega.{arith}
-use Rattle.patterns.specs.Outcome.{refused}
+use Rattle.std.proofs.Common.{◌≡◌, ◌*◌, sym, ap, Option, Some, None, Result, Err, is_ok, ok_or, arith}
+use Rattle.std.proofs.lemmas.Slice.{put_mid-paste}
+use Rattle.std.proofs.lemmas.Bool.{false≢true}
+use Rattle.sheet.specs.Answer.{refusal_says}
+use Rattle.std.proofs.lemmas.Result.{err_from_is_err_and}
 use Rattle.sheet.specs.Line.{line_in}
-use Rattle.sheet.specs.Read.{sheet_in}
-use Rattle.sheet.proofs.Reading.{begun, same_size, parsed_fit, line_fits, line_taken, line_refused, scan_refused, ended_open, ended}
+use Rattle.sheet.specs.Inner.Promises.{ParsedAs}
+use Rattle.sheet.proofs.Reading.{begun, parsed_fit, parsed_nothing, line_fits, line_taken, line_formless, line_refused, scan_refused}
 use Rattle.sheet.proofs.text.scan.Goals as goal
-use Rattle.sheet.proofs.text.scan.Goals.{In-No}
+use Rattle.sheet.proofs.text.scan.Goals.{In_ok-form}
 
-refused-here : (c : In-No)
-    → (sheet_in c.args.text.now
-    ≡ refused c.in-No.number (c.loop-at.n + 1))
-    × (2 ≤ c.in-No.number)
-    × (c.in-No.number ≤ 6)
-refused-here c =
-    line_refused c.loop-at.invariant c.loop-at-test.true c.line_from-line.ensures.bytes c.parse-form.ensures.0
-    c.admit.ensures c.in-No.number c.in-No.is
+err_given : {A E : Type 0} (o : Option A) (e f : E) → ◌≡◌ {A = Result A E} (Err f) (ok_or o e) → f ≡ e
+err_given (Some x) e f h = absurd (false≢true (ap is_ok h))
+err_given None e f h = cc
 
 pub loop-at-init : goal.loop-at-init
-loop-at-init c = begun c.args.text.now c.args.numbers.now c.nothing_seen-seen.result c.nothing_seen-seen.ensures c.requires
+loop-at-init c = begun c.args.text.now c.args.numbers.now c.nothing-seen.result c.nothing-seen.ensures c.requires
+
+pub returns-in_err-form : goal.returns-in_err-form
+returns-in_err-form c =
+    let p = err_from_is_err_and c.from_residual.result c.from_residual.ensures.1 in
+    rw (p.1, p.2)
+    (scan_refused c.loop-at.invariant _ _ _ (ap refusal_says (err_given _ _ _ c.in_err-form.ensures.value))
+    (line_formless c.loop-at.invariant c.loop-at-test.true c.line_from-line.ensures.bytes
+    (parsed_nothing c.line_from-line.result.now c.parse.new.numbers (rw c.in_err-form.ensures.ok_part at c.parse.ensures.0))))
+
+parsed : (c : In_ok-form) → ParsedAs (line_in c.line_from-line.result.now) (Some c.in_ok-form.form) c.parse.new.numbers
+parsed c = rw c.in_ok-form.ensures.ok_part at c.parse.ensures.0
 
 pub admit-requires : goal.admit-requires
 admit-requires c = (
   c.loop-at.invariant.keeps.table.size,
-  parsed_fit (line_in c.line_from-line.result.now) c.parse-form.result _ c.parse-form.ensures.0,
-  c.parse-form.ensures.1,
+  parsed_fit c.line_from-line.result.now c.in_ok-form.form _ (parsed (goal.at.admit-requires c).In_ok-form),
+  c.parse.ensures.1,
 )
 
-pub kept_after-seen-requires : goal.kept_after-seen-requires
-kept_after-seen-requires c =
-    c.admit.ensures.room c.in-Yes.mark c.in-Yes.is
+pub returns-in-Err : goal.returns-in-Err
+returns-in-Err c =
+    scan_refused c.loop-at.invariant _ _ _ c.at.ensures
+    (line_refused c.loop-at.invariant c.loop-at-test.true c.line_from-line.ensures.bytes (parsed (goal.at.returns-in-Err c).In_ok-form) c.admit.ensures c.in-Err.fault c.in-Err.is)
 
-pub refusal_at-requires : goal.refusal_at-requires
-refusal_at-requires c = let h = refused-here (goal.at.refusal_at-requires c).In-No in (h.1, h.2)
-
-pub shape_of-numbers-in-No : goal.shape_of-numbers-in-No
-shape_of-numbers-in-No c = same_size c.loop-at.invariant
-
-pub returns-in-No : goal.returns-in-No
-returns-in-No c =
-    scan_refused c.loop-at.invariant _ _ _ c.refusal_at.ensures (refused-here (goal.at.returns-in-No c).In-No).0
-
-pub put_numbers-requires : goal.put_numbers-requires
-put_numbers-requires c = (
-  line_fits c.loop-at.invariant c.loop-at-test.true c.line_from-line.ensures.bytes c.parse-form.ensures.0
-      c.admit.ensures c.in-Yes.mark c.in-Yes.is,
-  c.parse-form.ensures.1,
-)
-
-pub overflow_add-at : goal.overflow_add-at
-overflow_add-at c = let text = c.args.text in let i = c.loop-at.invariant in search rules
-
-pub overflow_add-n-in-loop-at : goal.overflow_add-n-in-loop-at
-overflow_add-n-in-loop-at c = let text = c.args.text in let i = c.loop-at.invariant in search rules
-
-pub loop-at-smaller : goal.loop-at-smaller
-loop-at-smaller c =
-    omega (arith, c.loop-at.invariant.few)
+pub slice_bounds-copy_from_slice-end : goal.slice_bounds-copy_from_slice-end
+slice_bounds-copy_from_slice-end c =
+    let here = goal.at.slice_bounds-copy_from_slice-end c in
+    let fits = line_fits c.loop-at.invariant c.loop-at-test.true c.line_from-line.ensures.bytes (parsed here.In_ok-form) c.admit.ensures c.in_default.not-Err in
+    omega arith
 
 pub loop-at-preserved : goal.loop-at-preserved
 loop-at-preserved c =
-    line_taken c.loop-at.invariant c.loop-at-test.true c.line_from-line.ensures.bytes c.parse-form.ensures.0
-    c.admit.ensures c.in-Yes.mark c.in-Yes.is c.kept_after-seen.result c.kept_after-seen.ensures
-    c.put_numbers.new.lines c.put_numbers.ensures
-
-pub shape_of-numbers-then-seen-eq-LETTER_B : goal.shape_of-numbers-then-seen-eq-LETTER_B
-shape_of-numbers-then-seen-eq-LETTER_B c = same_size c.loop-at.invariant
-
-pub returns-then-seen-eq-LETTER_B : goal.returns-then-seen-eq-LETTER_B
-returns-then-seen-eq-LETTER_B c =
-    let reading = c.loop-at.invariant in
-    scan_refused reading _ _ _ refl (ended_open reading c.loop-at-test.false c.if-seen-eq-LETTER_B.true)
-
-pub shape_of-numbers : goal.shape_of-numbers
-shape_of-numbers c = same_size c.loop-at.invariant
-
-pub returns : goal.returns
-returns c = ended c.loop-at.invariant c.loop-at-test.false c.if-seen-eq-LETTER_B.false
+    let here = goal.at.loop-at-preserved c in
+    line_taken c.loop-at.invariant c.loop-at-test.true c.line_from-line.ensures.bytes (parsed here.In_ok-form)
+    c.admit.ensures c.in_default.not-Err _
+    (put_mid-paste (8 * c.loop-at.n) _ c.loop-at.numbers _ c.parse.new.numbers 8 c.copy_from_slice.ensures.after (omega arith) (sym c.parse.ensures.1))

@@ -6,7 +6,7 @@ use Rattle.sheet.proofs.Reading.{Reading}
 use Rattle.sheet.proofs.text.scan.Given as goal
 
 abbrev pub invariant-loop-at : goal.invariant-loop-at
-invariant-loop-at l = Reading l.text l.initial.numbers l.seen l.widths l.at l.n l.numbers
+invariant-loop-at l = Reading l.text l.initial.numbers l.seen l.at l.n l.numbers
 
 abbrev pub decreases-loop-at : goal.decreases-loop-at
 decreases-loop-at l = length l.text - l.n

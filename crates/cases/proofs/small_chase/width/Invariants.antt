@@ -1,6 +1,0 @@
--- The measure is what is left of the loop.
-use Rattle.std.proofs.Common.{length, ◌-◌}
-use Rattle.cases.proofs.small_chase.width.Given as goal
-
-abbrev pub decreases-loop-n : goal.decreases-loop-n
-decreases-loop-n l = length l.lines - l.n

@@ -1,2 +1,0 @@
--- What inner functions promise each other. No public contract cites this.
-pub mod Reads

@@ -1,8 +1,0 @@
-// A number read as a usize. A value that comes through here asks its caller nothing about the cast.
-ghost use Rattle.std.specs.Prelude.{◌≡◌};
-
-pub(crate) fn of_u32(x: u32) -> usize
-    ensures { result ≡ x }
-{
-    x as usize
-}
