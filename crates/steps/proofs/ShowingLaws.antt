@@ -1,10 +1,12 @@
 -- Laws of records in which steps are shown; what is shown of the numbers of steps is these steps. Assumes nothing.
 use mathlib.Core.Path.{◌≡◌, refl, sym, ◌∙◌, ap}
+use mathlib.Core.Bool.{Bool, true, false}
 use mathlib.Core.List.{List, [], ◌∷◌, ◌++◌, map, map-append, append-nil}
 use Prim.Native.Nat.{ℕ, zero, suc, ◌+◌, ◌*◌, ◌-◌, ◌/◌, ◌<◌, ◌≤◌}
 use native.Mathlib.Nat.{add-zero}
 use native.Mathlib.Numerals.{add-one}
 use native.Mathlib.Omega.{arith}
+use lib.Dec.{T, leb, leb→le}
 use lib.ListN.{length, get_or, take, drop, set, length-append, length-drop, length-map, drop_of_length-le}
 use lib.Seq.{length-take-le, take_all, get_or-append-add, get_or-drop, drop-cons, append_snoc, set_at, take_at, drop_at}
 use borrow.Author.Tests.{le-leb, lt-leb}
@@ -12,7 +14,7 @@ use Rattle.chase.specs.Steps.{Step, step_numbers}
 use Rattle.chase.specs.Judge.{Verdict, Right}
 use Rattle.chase.proofs.StepLaws.{length_numbers}
 use Rattle.steps.specs.declared.StepRecord.{StepRecord}
-use Rattle.steps.specs.Showing.{step_at, steps_in, record_of, step_of, record_at, no_record, shown_at, showing, count_of, Exactly}
+use Rattle.steps.specs.Showing.{step_at, steps_in, record_of, step_of, record_at, no_record, or_none, shown_at, showing, all_or_none, count_of, Exactly}
 
 -- The first n steps are n.
 pub length-steps_in : (numbers : List ℕ) (n : ℕ) → length (steps_in numbers n) ≡ n
@@ -21,6 +23,13 @@ length-steps_in numbers (suc n) = length-append (steps_in numbers n) (step_at nu
 
 length_shown : (numbers : List ℕ) (n : ℕ) → length (map record_of (steps_in numbers n)) ≡ n
 length_shown numbers n = length-map (steps_in numbers n) record_of ∙ length-steps_in numbers n
+
+-- As many records as before.
+pub length-showing : (numbers : List ℕ) (before : List StepRecord) (n : ℕ) → n ≤ length before → length (showing numbers before n) ≡ length before
+length-showing numbers before n within = length-append (map record_of (steps_in numbers n)) (drop n before) ∙ sum (length_shown numbers n) (length-drop n before)
+  where
+    sum : {a b : ℕ} → a ≡ n → b ≡ length before - n → a + b ≡ length before
+    sum p q = omega (arith, p, q, within)
 
 -- One step more.
 pub showing-suc : (numbers : List ℕ) (before : List StepRecord) (n : ℕ) → n < length before → set (showing numbers before n) n (record_at numbers n) ≡ showing numbers before (suc n)
@@ -40,9 +49,24 @@ showing_front numbers before n within =
     let none : drop n (take n before) ≡ [] = drop_of_length-le (take n before) (omega (arith, length-take-le n before within)) in
     rw (none, append-nil) refl
 
--- All are shown where the records and the numbers are enough.
+-- All are shown where the records and the numbers are enough, and none where one of them is too few.
 pub count_of_all : (records numbers n : ℕ) → n ≤ records → n * 5 ≤ numbers → count_of records numbers n ≡ n
 count_of_all records numbers n r m = simp (le-leb n records r, le-leb (n * 5) numbers m)
+
+pub count_of_few_numbers : (records numbers n : ℕ) → n ≤ records → numbers < n * 5 → count_of records numbers n ≡ 0
+count_of_few_numbers records numbers n r m = simp (le-leb n records r, lt-leb (n * 5) numbers m)
+
+pub count_of_few_records : (records numbers n : ℕ) → records < n → count_of records numbers n ≡ 0
+count_of_few_records records numbers n r = simp (lt-leb n records r)
+
+-- What is shown fits the records and the numbers.
+pub count_of-fits : (records numbers n : ℕ) → (count_of records numbers n ≤ records) × (count_of records numbers n * 5 ≤ numbers)
+count_of-fits records numbers n = by_tests (leb n records) (leb (n * 5) numbers) (leb→le n records) (leb→le (n * 5) numbers)
+  where
+    by_tests : (s t : Bool) → (T s → n ≤ records) → (T t → n * 5 ≤ numbers) → (all_or_none s t n ≤ records) × (all_or_none s t n * 5 ≤ numbers)
+    by_tests true true r m = (r tt, m tt)
+    by_tests true false r m = (omega arith, omega arith)
+    by_tests false t r m = (omega arith, omega arith)
 
 -- After the five numbers of a step come those of the next.
 step_at-suc : (a b c d e : ℕ) (numbers : List ℕ) (i : ℕ) → step_at (a ∷ b ∷ c ∷ d ∷ e ∷ numbers) (suc i) ≡ step_at numbers i
@@ -82,6 +106,14 @@ show_gives_the_steps steps rest numbers before are within = record {
 -- So the steps that a judged sheet's lent memory holds are shown exactly.
 pub show_gives_the_judged_steps : (limit : ℕ) (lines before numbers : List ℕ) (v : Verdict) (records : List StepRecord) (right : Right limit lines before v numbers) → length right.steps ≤ length records → Exactly right.steps numbers records
 show_gives_the_judged_steps limit lines before numbers v records right within = show_gives_the_steps right.steps (drop (5 * length right.steps) before) numbers records right.held within
+
+-- One step, shown in one record.
+pub showing_in_one : (numbers : List ℕ) → get_or (showing numbers (no_record ∷ []) (count_of 1 (length numbers) 1)) 0 no_record ≡ shown_at numbers 0
+showing_in_one numbers = by_test (leb 5 (length numbers))
+  where
+    by_test : (t : Bool) → get_or (showing numbers (no_record ∷ []) (all_or_none true t 1)) 0 no_record ≡ or_none t (record_at numbers 0)
+    by_test true = refl
+    by_test false = refl
 
 -- Where there is a step i, it is the first of the numbers from its own on; where there is none, all is zero.
 shown_at-drop : (numbers : List ℕ) (i : ℕ) → i < length numbers / 5 → shown_at (drop (i * 5) numbers) 0 ≡ shown_at numbers i

@@ -60,12 +60,21 @@ pub fn show(records: &mut [StepRecord], numbers: &[u16], n: usize) -> usize
     m
 }
 
+// The first step, shown in a record of its own; all zeros where the numbers are fewer than five.
+fn first_shown(numbers: &[u16]) -> StepRecord
+    ensures { result ≡ shown_at numbers.now 0 }
+{
+    let mut records = [StepRecord::default()];
+    show(&mut records, numbers, 1);
+    records[0]
+}
+
 // Step `i`, counted from 0, as it is shown; all zeros where the numbers hold none.
 pub fn shown_at(numbers: &[u16], i: usize) -> StepRecord
     ensures { result ≡ shown_at numbers.now i }
 {
     if i < numbers.len() / 5 {
-        step_at(numbers, i)
+        first_shown(&numbers[i * 5..])
     } else {
         StepRecord::default()
     }
