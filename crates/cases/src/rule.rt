@@ -14,13 +14,13 @@ pub(crate) fn numbers(line: &Line) -> [u32; 6] {
 // A rule: the place of its B line, what that line says, and the H lines that follow it.
 #[derive(Clone, Copy)]
 pub(crate) struct Rule<'a> {
-    pub at: usize,
+    pub at: u16,
     pub kind: u32,
     pub marks: [u32; 6],
     pub heads: &'a [Line],
 }
 
-// The rule whose B line is line `at`; None where that is none.
+// The rule whose B line is line `at`; None where that is none. A sheet has fewer than 65,536 lines.
 pub(crate) fn rule_at(lines: &[Line], at: usize) -> Option<Rule<'_>> {
     let (body, after) = lines.get(at..)?.split_first()?;
     if body[0] != LETTER_B {
@@ -28,7 +28,7 @@ pub(crate) fn rule_at(lines: &[Line], at: usize) -> Option<Rule<'_>> {
     }
     let heads = after.iter().take_while(|line| line[0] == LETTER_H).count();
     Some(Rule {
-        at,
+        at: u16::try_from(at).ok()?,
         kind: body[1],
         marks: numbers(body),
         heads: &after[..heads],
@@ -60,10 +60,15 @@ pub(crate) fn width(lines: &[Line], kind: u32) -> usize {
 }
 
 // For each field the place of the first field that is equal.
-pub(crate) fn firsts<T: Eq>(fields: &[T; 6]) -> [usize; 6] {
+pub(crate) fn firsts<T: Eq>(fields: &[T; 6]) -> [u8; 6] {
     let mut places = [0; 6];
     for (place, field) in places.iter_mut().zip(fields) {
-        *place = fields.iter().position(|other| other == field).unwrap_or(0);
+        for (n, other) in (0..6).zip(fields) {
+            if other == field {
+                *place = n;
+                break;
+            }
+        }
     }
     places
 }

@@ -1,6 +1,6 @@
 // A small chase, written from document 01 alone: the records of a sheet, fired until nothing new comes or the tables are full.
 use crate::rule::{Line, Rule, firsts, numbers, rule_at, width};
-use crate::table::add;
+use crate::table::{Entry, Keyed, add, mixed};
 use arrayvec::ArrayVec;
 use sheet::{LETTER_B, LETTER_R};
 
@@ -11,16 +11,26 @@ pub(crate) enum Value {
     Given(u32),
     // A number 0 of a row is not given: it is a value of its own, that of this line and field.
     Missing {
-        line: usize,
-        field: usize,
+        line: u16,
+        field: u8,
     },
     // A number that a rule makes for a mark where it carries these values.
     Fresh {
-        rule: usize,
+        rule: u16,
         mark: u32,
-        generation: usize,
-        carried: [Option<usize>; 6],
+        generation: u16,
+        carried: [Option<u16>; 6],
     },
+}
+
+impl Value {
+    // Its generation; 0 for what no rule makes.
+    fn generation(&self) -> u16 {
+        match self {
+            Value::Fresh { generation, .. } => *generation,
+            _ => 0,
+        }
+    }
 }
 
 // What stands in a table's unused places.
@@ -34,14 +44,61 @@ impl Default for Value {
 #[derive(Clone, Copy, Default, PartialEq, Eq)]
 pub(crate) struct Record {
     pub kind: u32,
-    pub fields: [Option<usize>; 6],
+    pub fields: [Option<u16>; 6],
 }
 
 // A record's kind, and for each field the place of the first field that is equal.
 #[derive(Clone, Copy, Default, PartialEq, Eq)]
 pub(crate) struct Shape {
     pub kind: u32,
-    pub firsts: [usize; 6],
+    pub firsts: [u8; 6],
+}
+
+// The key of what is keyed so far and the places of values after it.
+fn mixed_places(key: u32, places: &[Option<u16>; 6]) -> u32 {
+    let mut all = key;
+    for place in places {
+        all = mixed(all, place.map_or(65536, u32::from));
+    }
+    all
+}
+
+impl Entry for Value {
+    fn key(&self) -> u32 {
+        match self {
+            Value::Given(number) => *number,
+            Value::Missing { line, field } => mixed(u32::from(*line), u32::from(*field)),
+            Value::Fresh {
+                rule,
+                mark,
+                carried,
+                ..
+            } => mixed_places(mixed(u32::from(*rule), *mark), carried),
+        }
+    }
+}
+
+impl Entry for Record {
+    fn key(&self) -> u32 {
+        mixed_places(self.kind, &self.fields)
+    }
+}
+
+impl Entry for Shape {
+    fn key(&self) -> u32 {
+        let mut all = self.kind;
+        for first in &self.firsts {
+            all = mixed(all, u32::from(*first));
+        }
+        all
+    }
+}
+
+// A rule goes by the place of its B line.
+impl Entry for u16 {
+    fn key(&self) -> u32 {
+        u32::from(*self)
+    }
 }
 
 // How many entries a table has room for, and how many that of the values.
@@ -53,10 +110,10 @@ const VALUE_ROOM: usize = 2047;
 #[derive(Drop)]
 pub(crate) struct Chase<'a> {
     pub lines: &'a [Line],
-    pub records: ArrayVec<Record, ROOM>,
-    pub values: ArrayVec<Value, VALUE_ROOM>,
-    pub shapes: ArrayVec<Shape, ROOM>,
-    pub fired: ArrayVec<usize, ROOM>,
+    pub records: ArrayVec<Keyed<Record>, ROOM>,
+    pub values: ArrayVec<Keyed<Value>, VALUE_ROOM>,
+    pub shapes: ArrayVec<Keyed<Shape>, ROOM>,
+    pub fired: ArrayVec<Keyed<u16>, ROOM>,
 }
 
 // Whether a rule fires on a record: whether fields with the same mark hold the same value.
@@ -64,16 +121,21 @@ pub(crate) fn fires(rule: &Rule<'_>, record: &Record) -> bool {
     if rule.kind != record.kind {
         return false;
     }
-    for (first, value) in firsts(&rule.marks).iter().zip(&record.fields) {
-        if record.fields.get(*first) != Some(value) {
-            return false;
+    for (mark, value) in rule.marks.iter().zip(&record.fields) {
+        for (other, first) in rule.marks.iter().zip(&record.fields) {
+            if other == mark {
+                if first != value {
+                    return false;
+                }
+                break;
+            }
         }
     }
     true
 }
 
 // The values that a rule carries from a record: those whose marks stand in an H line.
-fn carried(rule: &Rule<'_>, record: &Record) -> [Option<usize>; 6] {
+fn carried(rule: &Rule<'_>, record: &Record) -> [Option<u16>; 6] {
     let mut values = record.fields;
     for (value, mark) in values.iter_mut().zip(&rule.marks) {
         if !rule.heads.iter().any(|head| head[2..].contains(mark)) {
@@ -116,37 +178,41 @@ impl<'a> Chase<'a> {
     }
 
     // The generation of a value; 0 for none and for what no rule makes.
-    pub(crate) fn generation(&self, value: Option<usize>) -> usize {
+    pub(crate) fn generation(&self, value: Option<u16>) -> u16 {
         let Some(place) = value else { return 0 };
-        match self.values.get(place) {
-            Some(Value::Fresh { generation, .. }) => *generation,
-            _ => 0,
+        match self.values.get(usize::from(place)) {
+            Some(value) => value.entry.generation(),
+            None => 0,
         }
     }
 
     // The largest generation of a value.
     pub(crate) fn deepest(&self) -> usize {
         let mut best = 0;
-        for place in 0..self.values.len() {
-            best = best.max(self.generation(Some(place)));
+        for value in &self.values {
+            best = best.max(value.entry.generation());
         }
-        best
+        usize::from(best)
+    }
+
+    // The place of a value in the table of values, into which it is put unless it is there.
+    fn place(&mut self, value: Value) -> Option<u16> {
+        u16::try_from(add(&mut self.values, value)?).ok()
     }
 
     // The fresh number of a mark.
-    fn fresh(&mut self, rule: usize, mark: u32, carried: [Option<usize>; 6]) -> Option<usize> {
-        let mut largest: usize = 0;
+    fn fresh(&mut self, rule: u16, mark: u32, carried: [Option<u16>; 6]) -> Option<u16> {
+        let mut largest: u16 = 0;
         for value in carried {
             largest = largest.max(self.generation(value));
         }
         let generation = largest.saturating_add(1);
-        let new = Value::Fresh {
+        self.place(Value::Fresh {
             rule,
             mark,
             generation,
             carried,
-        };
-        add(&mut self.values, new)
+        })
     }
 
     // The record that an H line makes of a record on which its rule fires.
@@ -167,17 +233,24 @@ impl<'a> Chase<'a> {
         }
     }
 
+    // The place of the value in a field of the row at a line.
+    fn row_value(&mut self, at: usize, field: usize, number: u32) -> Option<u16> {
+        self.place(match number {
+            0 => Value::Missing {
+                line: u16::try_from(at).ok()?,
+                field: u8::try_from(field).ok()?,
+            },
+            number => Value::Given(number),
+        })
+    }
+
     // The record of the row at a line.
     pub(crate) fn row(&mut self, at: usize, row: &Line) -> Record {
         let kind = row[1];
         let given = numbers(row);
         let mut fields = [None; 6];
         for (field, place) in fields.iter_mut().enumerate().take(width(self.lines, kind)) {
-            let value = match given[field] {
-                0 => Value::Missing { line: at, field },
-                number => Value::Given(number),
-            };
-            *place = add(&mut self.values, value);
+            *place = self.row_value(at, field, given[field]);
         }
         Record { kind, fields }
     }
@@ -208,21 +281,29 @@ impl<'a> Chase<'a> {
         }
     }
 
+    // Tries the rules whose B line has the kind of a record.
+    fn try_rules(&mut self, record: &Record) {
+        let lines = self.lines;
+        for (at, line) in lines.iter().enumerate() {
+            if line[0] == LETTER_B && line[1] == record.kind {
+                if let Some(rule) = rule_at(lines, at) {
+                    self.try_rule(&rule, record);
+                }
+            }
+        }
+    }
+
     // Fires all rules on all records. Says whether nothing new can come.
     fn fire_all(&mut self) -> bool {
         for k in 0..ROOM {
             if !self.can_fire() {
                 return false;
             }
-            let Some(&record) = self.records.get(k) else {
+            let Some(&Keyed { entry: record, .. }) = self.records.get(k) else {
                 return true;
             };
             add(&mut self.shapes, shape_of(&record));
-            for at in 0..self.lines.len() {
-                if let Some(rule) = rule_at(self.lines, at) {
-                    self.try_rule(&rule, &record);
-                }
-            }
+            self.try_rules(&record);
         }
         false
     }

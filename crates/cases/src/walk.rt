@@ -3,7 +3,7 @@ ghost use Rattle.std.specs.Prelude.{◌+◌, ◌≤◌};
 
 use crate::rule::{Line, Rule, nth, numbers, rule_at};
 use crate::small_chase::{Chase, ROOM, Record, Shape, Value, fires, shape_of};
-use crate::table::add;
+use crate::table::{Entry, Keyed, add};
 use arrayvec::ArrayVec;
 use judging::Figures;
 use sheet::{LETTER_B, LETTER_R};
@@ -13,11 +13,17 @@ use steps::StepRecord;
 #[derive(Clone, Copy)]
 struct Going {
     pub record: Record,
-    pub field: Option<usize>,
+    pub field: Option<u8>,
 }
 
 // The shapes that are met, each with the field that is followed.
-type Met = ArrayVec<(Shape, Option<usize>), ROOM>;
+type Met = ArrayVec<Keyed<(Shape, Option<u8>)>, ROOM>;
+
+impl Entry for (Shape, Option<u8>) {
+    fn key(&self) -> u32 {
+        self.0.key()
+    }
+}
 
 // What a step does with the value that is followed.
 #[derive(Clone, Copy)]
@@ -25,15 +31,15 @@ enum Way {
     // It only reaches a record.
     Reaches,
     // It makes a number in a field, of the value in a field; or of none, which is the first to be followed.
-    Makes { from: Option<usize>, to: usize },
+    Makes { from: Option<u8>, to: u8 },
     // It carries the value of a field to a field.
-    Carries { from: usize, to: usize },
+    Carries { from: u8, to: u8 },
 }
 
 // A field, counted from 0, by its number, counted from 1; None for 0 and for fields that there are not.
-fn field_of(number: u16) -> Option<usize> {
-    usize::from(number)
-        .checked_sub(1)
+fn field_of(number: u16) -> Option<u8> {
+    u8::try_from(number.checked_sub(1)?)
+        .ok()
         .filter(|field| *field < 6)
 }
 
@@ -58,8 +64,8 @@ fn way_of(step: &StepRecord) -> Option<Way> {
 }
 
 // The place of the value in a field.
-fn value_in(record: &Record, field: usize) -> Option<usize> {
-    *record.fields.get(field)?
+fn value_in(record: &Record, field: u8) -> Option<u16> {
+    *record.fields.get(usize::from(field))?
 }
 
 // A rule that fires on a record, and what it makes of that by one of its H lines.
@@ -73,18 +79,21 @@ struct Firing<'a> {
 
 impl Firing<'_> {
     // The mark of a field in the H line.
-    fn mark(&self, field: usize) -> Option<u32> {
-        numbers(self.head).get(field).copied()
+    fn mark(&self, field: u8) -> Option<u32> {
+        numbers(self.head).get(usize::from(field)).copied()
     }
 
     // Whether a field holds this rule's fresh number for its mark, and that carries the value of the other field; with none it carries nothing.
-    fn makes(&self, chase: &Chase<'_>, from: Option<usize>, to: usize) -> Option<bool> {
+    fn makes(&self, chase: &Chase<'_>, from: Option<u8>, to: u8) -> Option<bool> {
         let Value::Fresh {
             rule,
             mark,
             carried,
             ..
-        } = chase.values.get(value_in(&self.made, to)?)?
+        } = &chase
+            .values
+            .get(usize::from(value_in(&self.made, to)?))?
+            .entry
         else {
             return None;
         };
@@ -96,7 +105,7 @@ impl Firing<'_> {
     }
 
     // Whether a field's mark stands in the B line, and its value in the other field.
-    fn carries(&self, from: usize, to: usize) -> Option<bool> {
+    fn carries(&self, from: u8, to: u8) -> Option<bool> {
         let value = value_in(&self.made, to)?;
         let is_carried = self.rule.marks.contains(&self.mark(to)?);
         Some(is_carried && value_in(&self.record, from) == Some(value))
@@ -185,7 +194,7 @@ fn walk_trail(
 }
 
 // The generation of the value that is followed; 0 where none is.
-fn generation(chase: &Chase<'_>, going: &Going) -> usize {
+fn generation(chase: &Chase<'_>, going: &Going) -> u16 {
     match going.field {
         Some(field) => chase.generation(value_in(&going.record, field)),
         None => 0,
@@ -204,7 +213,7 @@ pub(crate) fn settled_right(chase: &mut Chase<'_>, steps: &[u16], f: &Figures) -
         return false;
     }
     match walk_trail(chase, &mut ArrayVec::new(), steps, f.row, f.trail) {
-        Some(going) => generation(chase, &going) == f.deepest,
+        Some(going) => usize::from(generation(chase, &going)) == f.deepest,
         None => false,
     }
 }
