@@ -78,8 +78,7 @@ fn fire_rule(
     Some(Counts { rows: n, ..c })
 }
 
-// Rule `r` on record `i`. A function of its own in the program too, so that the loop over the rules of a kind stays short.
-#[inline(never)]
+// Rule `r` on record `i`.
 fn visit_rule(
     rows: &mut [u32],
     index: &mut [u16],
