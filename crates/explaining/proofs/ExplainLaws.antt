@@ -23,9 +23,9 @@ use Rattle.judging.specs.declared.Verdict.TheVariants.{Settles, Endless}
 use Rattle.sentences.specs.Sentence.{told, text_of}
 use Rattle.sentences.specs.Explain.{Explains, Refuses, wrong, many, settles, short, ExplainMeets}
 use Rattle.sentences.proofs.Naming.{Named, answer_named}
-use Rattle.explaining.specs.Answer.{explain_says, explain_refusal_number, explain_refusal_line}
+use Rattle.explaining.specs.Answer.{explain_says, explain_refusal_number, explain_refusal_line, SameRefusal}
 use Rattle.explaining.specs.declared.ExplainRefusal.{ExplainRefusal}
-use Rattle.explaining.specs.Inner.Text.{SameRefusal, NamedTo, text_to, TextWritten}
+use Rattle.explaining.specs.Inner.Text.{NamedTo, text_to, TextWritten}
 use Rattle.explaining.proofs.TextLaws.{text_is, named_to}
 
 -- A refusal of Judge's, where steps enough are lent, is one of explaining.

@@ -8,8 +8,7 @@ mod text;
 ghost use Rattle.std.specs.Prelude.{◌≡◌, length};
 ghost use Rattle.chase.specs.Judge.{shape_limit};
 ghost use Rattle.sentences.specs.Explain.{ExplainMeets};
-ghost use Rattle.explaining.specs.Answer.{explain_says, explain_refusal_number, explain_refusal_line};
-ghost use Rattle.explaining.specs.Inner.Text.{SameRefusal};
+ghost use Rattle.explaining.specs.Answer.{explain_says, explain_refusal_number, explain_refusal_line, SameRefusal};
 
 use judging::{JudgeRefusal, Verdict};
 use sheet::RefusalNumbers;

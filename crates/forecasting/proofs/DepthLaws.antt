@@ -15,8 +15,8 @@ use Rattle.judging.specs.declared.Verdict.TheVariants.{Settles, Endless}
 use Rattle.rules.specs.Table.{good_lines, lines_in}
 use Rattle.growth.specs.Contract.{refuses, ForecastMeets}
 use Rattle.growth.proofs.Answers.{settled_foretold, endless_refused, refused_foretold, not_twelve}
-use Rattle.forecasting.specs.Answer.{forecast_refusal_number, forecast_refusal_line}
-use Rattle.forecasting.specs.Inner.Terms.{SameRefusal, DepthSays}
+use Rattle.forecasting.specs.Answer.{forecast_refusal_number, forecast_refusal_line, SameRefusal}
+use Rattle.forecasting.specs.Inner.Terms.{DepthSays}
 use Rattle.forecasting.specs.declared.ForecastRefusal.{ForecastRefusal}
 
 -- What Judge has answered.

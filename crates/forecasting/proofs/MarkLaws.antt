@@ -224,7 +224,7 @@ marks_next numbers (suc h) n =
     ∙ sym (append_assoc (marks_at numbers n) (marks_of (heads_at numbers (n + 1) h)) (marks_at numbers (n + suc h)))
 
 -- All its marks are passed.
-head_all : {numbers : List ℕ} {n h : ℕ} {met : List Mark} {c : MarkCounts} {marks : List ℕ} → HeadsCounted numbers n h met c marks
+pub head_all : {numbers : List ℕ} {n h : ℕ} {met : List Mark} {c : MarkCounts} {marks : List ℕ} → HeadsCounted numbers n h met c marks
     → marks ≡ marks_at numbers (n + 1 + h) → HeadsCounted numbers n (h + 1) met c []
 head_all {numbers} {n} {h} {met} {c} s e =
     record {

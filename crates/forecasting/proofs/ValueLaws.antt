@@ -199,7 +199,7 @@ module _ {lines widths held : List ℕ} {zeroes n : ℕ} {numbers : List ℕ} (s
   kind_small = omega (arith, kind_at e, kind_low lines widths c.row n sheet c.reading (line_there e))
 
   -- A line that is no row.
-  count_other : {widths' : List ℕ} → (get_or lines (8 * n) 0 ≡ 82 → ⊥) → Reading lines widths' c.row (n + 1) → Counting lines widths' held zeroes (n + 1)
+  pub count_other : {widths' : List ℕ} → (get_or lines (8 * n) 0 ≡ 82 → ⊥) → Reading lines widths' c.row (n + 1) → Counting lines widths' held zeroes (n + 1)
   count_other d r =
       record {
         row = c.row;

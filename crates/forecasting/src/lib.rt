@@ -11,8 +11,8 @@ ghost use Rattle.rules.specs.Table.{SheetHeld, lines_in};
 ghost use Rattle.arithmetic.specs.Capped.{capped};
 ghost use Rattle.growth.specs.Forecast.{figure as figureFor, forecast as forecastOf};
 ghost use Rattle.growth.specs.Contract.{ForecastMeets};
-ghost use Rattle.forecasting.specs.Answer.{figure_of, figures_of, forecast_says, forecast_refusal_number, forecast_refusal_line};
-ghost use Rattle.forecasting.specs.Inner.Terms.{grown, SameRefusal, DepthSays};
+ghost use Rattle.forecasting.specs.Answer.{figure_of, figures_of, forecast_says, forecast_refusal_number, forecast_refusal_line, SameRefusal};
+ghost use Rattle.forecasting.specs.Inner.Terms.{grown, DepthSays};
 
 use judging::{JudgeRefusal, Verdict};
 use sheet::RefusalNumbers;

@@ -89,11 +89,17 @@ fn bucket(by: usize, x: u32) -> usize
     x as usize * by % 4294967296 / 1048576
 }
 
-// How many values of a row are 0.
+// How many values of a row are 0. By the count of a filter the program branches at each value, and of a row of which a third is 0 no processor foretells that.
 fn zeros_of(row: &[u32]) -> usize
     ensures { result ≡ zeros_in row.now }
 {
-    row.iter().filter(|x| **x == 0).count()
+    let mut zeros: usize = 0;
+    for x in row {
+        if *x == 0 {
+            zeros += 1;
+        }
+    }
+    zeros
 }
 
 // Adds the values of all rows and answers how many are 0. The width of a row is that of its kind.

@@ -144,7 +144,7 @@ fn read_lines(text: &[u8], lines: &mut [u32; 13104]) -> Result<usize, RefusalNum
     }
 }
 
-// Reads a text and fills the output with what `tell` puts of its lines, or with the reading's refusal: so many bytes, or none where less is lent than `limit`. Of lent output that is long enough only the bytes that the answer counts are changed; otherwise nothing is.
+// Reads a text and fills the output with what `tell` puts of its lines, or with the reading's refusal: so many bytes. Where less is lent than `limit` it answers none and changes nothing; a refusal changes its own bytes alone, and what `tell` changes is in `tell`'s contract.
 pub fn print_text<F: FnOnce(&[u32], &mut [u8]) -> usize>(
     text: &[u8],
     output: &mut [u8],

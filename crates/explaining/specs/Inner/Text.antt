@@ -4,11 +4,8 @@ use Rattle.columns.specs.Column.{put}
 use Rattle.chase.specs.Rules.{Rule, nth}
 use Rattle.chase.specs.Steps.{Step}
 use Rattle.rules.specs.Table.{rules_in}
-use Rattle.judging.specs.Answer.{judge_refusal_number, judge_refusal_line}
-use Rattle.judging.specs.declared.JudgeRefusal.{JudgeRefusal}
 use Rattle.sentences.specs.Sentence.{sentence, said, body_kind, made_kind}
 use Rattle.sentences.specs.Inner.Naming.{Names}
-use Rattle.explaining.specs.Answer.{explain_refusal_number, explain_refusal_line}
 use Rattle.explaining.specs.declared.sentence.Sentence.{Sentence}
 use Rattle.explaining.specs.declared.text.Told.{Told}
 use Rattle.explaining.specs.declared.ExplainRefusal.{ExplainRefusal}
@@ -74,7 +71,3 @@ text_told t = text_to (rules_in t.lines.now) t.steps.now t.trail t.count
 abbrev pub TextWritten : List ℕ → List ℕ → Result ℕ ExplainRefusal → List ℕ → Type 0
 TextWritten new before (Ok size) after = (size ≡ length new) × (length new ≤ length before) × (after ≡ put before 0 new)
 TextWritten new before (Err r) after = (r ≡ TextShort) × (length before < length new) × (after ≡ before)
-
--- A refusal of explaining that is one of judging.
-abbrev pub SameRefusal : JudgeRefusal → ExplainRefusal → Type 0
-SameRefusal j r = (judge_refusal_number j ≡ 12 → ⊥) → (explain_refusal_number r ≡ judge_refusal_number j) × (explain_refusal_line r ≡ judge_refusal_line j)

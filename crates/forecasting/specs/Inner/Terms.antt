@@ -10,8 +10,6 @@ use Rattle.rules.specs.Inner.Bytes.{rule_at, head_count}
 use Rattle.arithmetic.specs.Capped.{polynomial}
 use Rattle.growth.specs.Forecast.{sum_of, new_with, kind_lines, records_with, pairs_with, forecast}
 use Rattle.growth.specs.Contract.{foretold, refuses, ForecastMeets}
-use Rattle.judging.specs.Answer.{judge_refusal_number, judge_refusal_line}
-use Rattle.judging.specs.declared.JudgeRefusal.{JudgeRefusal}
 use Rattle.forecasting.specs.Answer.{forecast_refusal_number, forecast_refusal_line}
 use Rattle.forecasting.specs.declared.ForecastRefusal.{ForecastRefusal}
 use Rattle.forecasting.specs.declared.marks.MarkCounts.{MarkCounts}
@@ -43,10 +41,6 @@ pub record RulesCounted (lines : List Line) (r : RuleTerms) : Type 0 where
 abbrev pub grown : List ℕ → ℕ → ℕ → ℕ
 grown fresh first zero = first
 grown fresh first (suc d) = first + polynomial fresh (grown fresh first d)
-
--- A refusal of judging and one of the forecast have the same number and line, unless judging has too few steps.
-abbrev pub SameRefusal : JudgeRefusal → ForecastRefusal → Type 0
-SameRefusal j r = (judge_refusal_number j ≡ 12 → ⊥) → (forecast_refusal_number r ≡ judge_refusal_number j) × (forecast_refusal_line r ≡ judge_refusal_line j)
 
 -- What Judge's answer says: the lines are a sheet that settles, whose forecast is the one with this deepest generation; or why nothing is foretold.
 abbrev pub DepthSays : List ℕ → Result ℕ ForecastRefusal → Type 0
