@@ -47,8 +47,8 @@ extern "C" {
 #define FOLLOWUP_VERSION 1
 
 /* Stack that suffices for a thread that makes any of the calls. test.c makes them on a stack of that size, filled with one byte
- * value, and looks how much of it has changed at the end: 264,536 bytes with carrying out, 252,228 with explaining, 248,276 with the
- * forecast, 248,036 with judging, 236,308 with judging a text, 109,944 with reading, 80,872 with writing, 4,464 with none (gcc -O2,
+ * value, and looks how much of it has changed at the end: 264,600 bytes with carrying out, 252,356 with explaining, 248,324 with the
+ * forecast, 248,100 with judging, 236,388 with judging a text, 109,936 with reading, 80,864 with writing, 4,464 with none (gcc -O2,
  * glibc). So no call needs 256 KiB itself. Some C libraries give a thread less where nothing is asked for (musl: 128 KiB); there set
  * the size of its stack (pthread_attr_setstacksize). */
 #define FOLLOWUP_STACK ((size_t)264 * 1024)
